@@ -1,4 +1,4 @@
--- A payload without a fault is in the grammar, and a payload that is in the grammar is read.
+-- The grammar accepts a payload without a fault, and a payload that it accepts is read.
 use Rattle.std.proofs.Common.{◌≡◌, ◌<◌, ℕ, zero, suc, ◌+◌, ◌-◌, ◌%◌, inl, inr, List, [], ◌∷◌, ◌++◌, length, Option, Some, None, Result, refl, sym, ap, ◌∙◌, append-nil, arith}
 use Rattle.sfu_base.specs.Bytes.{AreBytes}
 use Rattle.av1_payload.specs.declared.fault.PayloadFault.{PayloadFault}

@@ -173,7 +173,7 @@ pub length_takes : (bytes rest : List ℕ) (n : ℕ) → length_at bytes ≡ Som
 length_takes bytes rest n read =
     let is = length_parts bytes rest n read in (length is.groups, some_groups bytes is.groups is.there, is.behind)
 
--- and was encoded
+-- a length that is read was encoded
 pub record IsLengthAt (bytes rest : List ℕ) (n : ℕ) : Type 0 where
   pub groups : List ℕ
   pub is : IsLength groups n

@@ -28,7 +28,7 @@ header_again header rest small =
     let n = bit_again (header / 8 % 2) (omega arith) in
     omega (arith, z, y, n)
 
--- and the fields of which it is composed are read
+-- the fields of which a header is composed are read back
 pub count_read : (flags : Flags) (count reserved : ℕ) → count < 4 → reserved < 8 → count_in (header_byte flags count reserved) ≡ count
 count_read flags count reserved few ignored =
     omega (arith, bit_below flags.continues, bit_below flags.carries, bit_below flags.new_sequence)

@@ -1,4 +1,4 @@
--- What the code knows of a payload that it parsed.
+-- Properties of a payload that the code has parsed.
 use Rattle.std.proofs.Common.{◌≡◌, ℕ, zero, suc, List, [], ◌∷◌, Option, None, refl, sym, ap, subst, ◌∙◌}
 use Rattle.sfu_base.specs.Bytes.{AreBytes}
 use Rattle.av1_payload.specs.declared.fault.PayloadFault.{PayloadFault}

@@ -1,5 +1,5 @@
--- For each fault the layout of bytes that have it, as a concatenation (RTP Payload Format For AV1,
--- section 4.4). The code returns the first fault that it finds.
+-- For each fault, the layout of the bytes that have it, as a concatenation (RTP Payload Format For AV1, section 4.4). The code returns the
+-- first fault that it finds.
 use Rattle.std.specs.Prelude.{◌≡◌, ◌≢◌, ℕ, zero, suc, ◌<◌, List, [], ◌∷◌, ◌++◌, length}
 use Rattle.av1_payload.specs.declared.fault.PayloadFault.{PayloadFault}
 use Rattle.av1_payload.specs.declared.fault.PayloadFault.TheVariants.{Empty, Leb, Length, NoElement}
@@ -7,12 +7,12 @@ use Rattle.av1_payload.specs.Leb.{leb_bytes, IsLength}
 use Rattle.av1_payload.specs.Payloads.{SizedElement, all_bytes, AreSized}
 use Rattle.av1_payload.specs.Reading.{count_in}
 
--- After this many elements a length must follow: if W is 0, when a byte is left; else when the next element isn't the last.
+-- After this number of elements a length must follow. If W is 0, it must if a byte is left; otherwise it must if the next element isn't the last.
 abbrev pub IsDue : ℕ → ℕ → List ℕ → Type 0
 IsDue zero placed rest = 0 < length rest
 IsDue (suc sized) placed rest = placed < sized
 
--- a header and whole elements with their lengths, and then these bytes, at whose start a length must be
+-- the bytes are a header, complete elements with their lengths, and then `rest`, which must begin with a length
 pub record IsDueAt (bytes rest : List ℕ) : Type 0 where
   pub header : ℕ
   pub sized : List SizedElement

@@ -1,5 +1,5 @@
--- The encoding of an element's length (AV1 Bitstream Specification, section 4.10.5, leb128): groups of seven bits, the
--- lowest first, one in each byte. A byte's highest bit says that more follow. The code adds up the groups of bytes.
+-- The encoding of an element's length (AV1 Bitstream Specification, section 4.10.5, leb128): groups of seven bits, the lowest first, one in
+-- each byte. The highest bit of a byte is set if more bytes follow. The code adds up the groups of the bytes.
 use Rattle.std.specs.Prelude.{◌≡◌, ℕ, ◌+◌, ◌*◌, ◌^◌, ◌<◌, ◌≤◌, List, [], ◌∷◌, length}
 
 -- the number that groups encode

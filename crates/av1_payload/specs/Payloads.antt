@@ -5,7 +5,7 @@ use Rattle.std.specs.List.{flat_map}
 use Rattle.sfu_base.specs.Bytes.{bit}
 use Rattle.av1_payload.specs.Leb.{leb_bytes, IsLength}
 
--- Z: the first element continues from the packet before. Y: the last continues in the next. N: a coded video sequence begins.
+-- Z: the first element continues one of the previous packet. Y: the last element continues in the next packet. N: a coded video sequence begins.
 pub record Flags : Type 0 where
   pub continues : Bool
   pub carries : Bool
@@ -28,7 +28,7 @@ abbrev pub AreSized : List SizedElement → Type 0
 AreSized [] = Unit {0}
 AreSized (s ∷ others) = IsLength s.groups (length s.element) × AreSized others
 
--- The layout of elements: one or more, each with its length before it; or any number of these, and a last one without a length.
+-- The layout of elements: one or more that are each preceded by their length; or any number of these, followed by a last one without a length.
 pub data Laid : Type 0 where
   EachSized : (first : SizedElement) (others : List SizedElement) → Laid
   LastBare : (sized : List SizedElement) (last : List ℕ) → Laid

@@ -51,18 +51,18 @@ only_fault fault = record { elements = []; fault = Some fault }
 abbrev pub with_element : List ℕ → Found → Found
 with_element element others = record { elements = element ∷ others.elements; fault = others.fault }
 
--- an element that was read, and what is found after it
+-- an element that was read, and what is found in the bytes after it
 abbrev pub and_behind : Result (List ℕ × List ℕ) PayloadFault → (List ℕ → Found) → Found
 and_behind (Err fault) others = only_fault fault
 and_behind (Ok (element, behind)) others = with_element element (others behind)
 
--- Each element has its length before it (W = 0). The count says how many bytes still belong to the element before.
+-- Each element is preceded by its length (W = 0). The count says how many bytes still belong to the previous element.
 unfoldable pub sized_from : ℕ → List ℕ → Found
 sized_from skipped [] = no_elements
 sized_from (suc skipped) (byte ∷ rest) = sized_from skipped rest
 sized_from zero (byte ∷ rest) = and_behind (sized_at (byte ∷ rest)) (λ behind. sized_from (length rest - length behind) rest)
 
--- This many elements have their length before them, and all bytes after them are the last element (W = 1 to 3).
+-- This number of elements are preceded by their lengths, and all bytes after them are the last element (W = 1 to 3).
 unfoldable pub counted_from : ℕ → List ℕ → Found
 counted_from zero bytes = record { elements = bytes ∷ []; fault = None }
 counted_from (suc sized) bytes = and_behind (sized_at bytes) (counted_from sized)

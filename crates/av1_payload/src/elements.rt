@@ -3,8 +3,8 @@
 use crate::left::{Left, first_element};
 use std::marker::Model;
 
-/// An iterator over the elements of a payload, each borrowed from the payload's bytes. Contracts
-/// see it as the list of the remaining elements.
+/// An iterator over the elements of a payload. Each element is borrowed from the payload's bytes. Contracts see the iterator as the list of the
+/// remaining elements.
 #[derive(Debug, Drop)]
 pub struct PayloadElements<'a> {
     pub(crate) left: Left<'a>,

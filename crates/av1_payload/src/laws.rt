@@ -7,13 +7,14 @@ ghost use Rattle.av1_payload.specs.Faults.{HasFault};
 ghost use Rattle.av1_payload.specs.Payloads.{Flags, IsPayload};
 ghost use Rattle.av1_payload.specs.Reading.{elements_of, first_fault, flags_of};
 
-/// Bytes without a fault are a payload in the grammar, with the flags and the elements that are read from these bytes.
+/// The grammar accepts bytes without a fault, with the flags and elements that are read from these bytes.
 pub fn each_faultless_payload_is_in_the_grammar()
     ensures { (bytes : List ℕ) → AreBytes bytes → first_fault bytes ≡ None
         → IsPayload bytes (flags_of bytes) (elements_of bytes) }
 {}
 
-/// A payload in the grammar has no fault, and its flags and elements are those that are read from its bytes. So no bytes have two readings.
+/// A payload that the grammar accepts has no fault, and its flags and elements are those that are read from its bytes. So the same bytes can't have
+/// two readings.
 pub fn a_payload_has_one_reading()
     ensures faultless { (bytes : List ℕ) (flags : Flags) (elements : List (List ℕ)) → IsPayload bytes flags elements
         → first_fault bytes ≡ None }
@@ -25,7 +26,7 @@ pub fn a_payload_has_one_reading()
         → IsPayload bytes more_flags more → (flags ≡ more_flags) × (elements ≡ more) }
 {}
 
-/// `first_fault` returns a fault for bytes exactly when `HasFault` describes these bytes for that fault.
+/// `first_fault` of some bytes is a given fault exactly when `HasFault` holds for that fault and these bytes.
 pub fn faults_are_what_they_say()
     ensures { (fault : PayloadFault) (bytes : List ℕ) → AreBytes bytes → (first_fault bytes ≡ Some fault) ↔ HasFault fault bytes }
 {}

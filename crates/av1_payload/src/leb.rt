@@ -6,10 +6,10 @@ ghost use Rattle.av1_payload.specs.Reading.{length_at};
 /// The largest number of bytes of an encoded length.
 const MOST_BYTES: usize = 8;
 
-/// Every length is below this.
+/// Every length is below this number.
 const BOUND: u64 = 0x1_0000_0000;
 
-/// The highest bit of a byte, which says that more bytes follow.
+/// The highest bit of a byte, which is set if more bytes follow.
 const MORE: u8 = 0x80;
 
 /// Reads a leb128 length from the start of the bytes (AV1 Bitstream Specification, section 4.10.5). Returns the length and the bytes

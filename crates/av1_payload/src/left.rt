@@ -1,4 +1,4 @@
-// The remaining elements of a payload, and the reader of the first of them.
+// The remaining elements of a payload, and how the first of them is read.
 
 ghost use Rattle.std.specs.Prelude.{◌≡◌, Ok, Err, MatchOption, MatchResult};
 ghost use Rattle.av1_payload.specs.Reading.{count_in, no_elements, only_fault, sized_at, with_element};
@@ -7,12 +7,12 @@ ghost use Rattle.av1_payload.specs.Seen.{found_left, layout_with};
 use crate::fault::PayloadFault;
 use crate::leb::split_length;
 
-/// How the remaining elements are laid out.
+/// The layout of the remaining elements.
 #[derive(Clone, Copy, Debug, PartialEq, Eq)]
 pub(crate) enum Layout {
-    /// Each element has its length before it.
+    /// Each element is preceded by its length.
     EachSized,
-    /// This many elements have their length before them. Then comes the last element, without a length.
+    /// This number of elements are preceded by their lengths. Then the last element follows, without a length.
     LastBare(u8),
 }
 
@@ -33,7 +33,8 @@ pub(crate) fn layout_behind(header: u8) -> Layout
     }
 }
 
-/// Returns the first remaining element and the elements after it, or `None` if no element remains. The error is the fault of the length.
+/// Returns the first remaining element and the elements after it, or `None` if no element remains. Returns `Leb` or `Length` if the length of the
+/// first element has a fault.
 pub(crate) fn first_element<'a>(
     left: Left<'a>,
 ) -> Result<Option<(&'a [u8], Left<'a>)>, PayloadFault>
@@ -66,7 +67,7 @@ pub(crate) fn first_element<'a>(
     }
 }
 
-/// Reads a length, and returns the element of that length after it and the bytes after the element. Errors: `Leb` and `Length`.
+/// Reads a length and the element of that length after it. Returns the element, and the bytes after it. Returns `Leb` or `Length` if the length has a fault.
 fn split_sized<'a>(bytes: &'a [u8]) -> Result<(&'a [u8], &'a [u8]), PayloadFault>
     ensures { MatchResult result (λ x. sized_at bytes.now ≡ Ok (x.0.now, x.1.now)) (λ e. sized_at bytes.now ≡ Err e) }
 {

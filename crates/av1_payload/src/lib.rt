@@ -1,5 +1,4 @@
-//! The payload of RTP packets of AV1 (RTP Payload Format For AV1, section 4.4): its flags and its elements. No call takes
-//! memory.
+//! Reads the payload of AV1 RTP packets (RTP Payload Format For AV1, section 4.4): its flags and its elements. No call allocates memory.
 #![tactic(auto)]
 
 mod elements;

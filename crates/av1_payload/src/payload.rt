@@ -13,7 +13,7 @@ use crate::left::{Layout, Left, first_element, layout_behind};
 /// The payload of an AV1 RTP packet (RTP Payload Format For AV1, section 4.4).
 #[derive(Clone, Copy, Debug, PartialEq, Eq)]
 pub struct Payload<'a> {
-    /// Z: the first element continues the last element of the packet before.
+    /// Z: the first element continues the last element of the previous packet.
     pub continues: bool,
     /// Y: the last element continues in the next packet.
     pub carries: bool,
@@ -22,10 +22,10 @@ pub struct Payload<'a> {
     left: Left<'a>,
 }
 
-/// Reads a payload (RTP Payload Format For AV1, section 4.4). Reserved bits are ignored, and an element may be empty
-/// (own rule). The error is the first fault from left to right: `Empty` if there are no bytes; `NoElement` if W is 0 and
-/// nothing follows the aggregation header; `Leb` if the bytes end before or within a length that should be there, or if
-/// a length has more than 8 bytes or is 2^32 or more; `Length` if a length is more than the number of bytes after it.
+/// Reads a payload (RTP Payload Format For AV1, section 4.4). Reserved bits are ignored, and an element may be empty (own rule). The error is
+/// the first fault from left to right. `Empty`: there are no bytes. `NoElement`: W is 0, and nothing follows the aggregation header. `Leb`: the
+/// bytes end before or within a required length, or a length has more than 8 bytes or is 2^32 or more. `Length`: a length is more than the
+/// number of bytes after it.
 #[inline(always)]
 pub fn read<'a>(bytes: &'a [u8]) -> Result<Payload<'a>, PayloadFault>
     ensures flags { IfOk result (λ p. flags_in p ≡ flags_of bytes.now) }
@@ -73,7 +73,7 @@ impl<'a> Payload<'a> {
     ghost use Rattle.std.specs.Prelude.{◌≡◌};
     ghost use Rattle.av1_payload.specs.Seen.{elements_within};
 
-    /// The elements, in order, each borrowed from the bytes that were read.
+    /// The elements in order, borrowed from the bytes that were read.
     pub fn elements(&self) -> PayloadElements<'a>
         ensures { result ≡ elements_within self.now }
     {

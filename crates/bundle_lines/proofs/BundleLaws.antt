@@ -1,4 +1,4 @@
--- A line is read exactly as the grammar says.
+-- Lines are read exactly as the grammar says.
 use Rattle.std.proofs.Common.{◌≡◌, ◌<◌, ℕ, Bool, true, false, not, cond, eqb, inl, inr, List, [], ◌∷◌, ◌++◌, length, refl, sym, ap, ◌∙◌, subst, arith, Option, Some, None}
 use Rattle.std.specs.Prelude.{codes}
 use Rattle.std.specs.Str.{bytes_eq}
@@ -49,9 +49,9 @@ word_is word named =
     pick word command.Bundle named _ _ refl (pick word command.Choose named _ _ refl (pick word command.Pump named _ _ refl
     (pick word command.Draw named _ _ refl (pick word command.Redraw named _ _ refl (no_command word named)))))
 
--- ---- what is read is spelled
+-- ---- a line that is read is written like this
 
--- the line is the word and what follows it
+-- the line is the word and the text after it
 abbrev Behind : List ℕ → List ℕ → BundleLine → Type 0
 Behind word rest said = IsBundleLine said (word ++ 32 ∷ rest)
 
@@ -106,7 +106,7 @@ three_found rest said e =
     let spelled = subst (λ (ns : List ℕ). Spells (places_of fs ns) rest) p.7 (fields_found fs rest r.0 r.1) in
     subst (Behind (codes "bundle") rest) p.8 (record { legs = inr refl; spelled = (codes "bundle", rest, refl, spelled, refl) })
 
--- one of two readings has a value
+-- one of two ways of reading has a value
 either : (P : Type 0) (one other : Option BundleLine) (said : BundleLine) → (one ≡ Some said → P) → (other ≡ Some said → P) → or_else one other ≡ Some said → P
 either P (Some x) other said here there e = here e
 either P None other said here there e = there e
@@ -143,7 +143,7 @@ pub line_found : (line : List ℕ) (said : BundleLine) → line_of line ≡ Some
 line_found line said e =
     either (IsBundleLine said line) (call_of line >>= (λ call. Some (Room call))) (own_of line) said (room_found line said) (own_found line said) e
 
--- ---- what is spelled is read
+-- ---- a line that is written like this is read
 
 not_true : (b : Bool) → not b ≡ true → b ≡ false
 not_true true h = cc
@@ -156,7 +156,7 @@ cut_nowhere mark (b ∷ bs) h =
     let parts = and_parts (not (eqb b mark)) (lacks mark bs) h in
     ap (λ (t : Bool). cond t (Some ([], bs)) (onto_first b (cut_at mark bs))) (not_true (eqb b mark) parts.0) ∙ ap (onto_first b) (cut_nowhere mark bs parts.1)
 
--- a text of this many words doesn't have one more
+-- a text of this number of words doesn't have one more
 too_few : (fs : List Field) (more : Field) (ns text : List ℕ) → length ns ≡ length fs → 0 < length fs → Spells (places_of fs ns) text
     → fields_of (fs ++ more ∷ []) text ≡ None
 too_few [] more ns text same long h = absurd (omega arith)
@@ -174,7 +174,7 @@ too_few (f ∷ g ∷ fs) more (n ∷ m ∷ ns) text same long h =
 begun : (line word rest wanted : List ℕ) → word ≡ wanted → line ≡ word ++ 32 ∷ rest → line ≡ wanted ++ 32 ∷ rest
 begun line word rest wanted is e = e ∙ ap (λ (w : List ℕ). w ++ 32 ∷ rest) is
 
--- the numbers that are read make the line
+-- the numbers that are read are those of the line
 made : (o : Option (List ℕ)) (numbers : List ℕ) (f : List ℕ → Option BundleLine) (said : BundleLine) → o ≡ Some numbers → f numbers ≡ Some said → (o >>= f) ≡ Some said
 made o numbers f said is e = ap (λ (x : Option (List ℕ)). x >>= f) is ∙ e
 
@@ -199,7 +199,7 @@ three_again b i s f x y z rest h =
 pub room_again : (call : Call) (line : List ℕ) → IsLine call line → line_of line ≡ Some (Room call)
 room_again call line h = ap (λ (o : Option Call). or_else (o >>= (λ said. Some (Room said))) (own_of line)) (call_again call line h)
 
--- a line about a bundle, by how many legs count
+-- a line about a bundle, by the number of its legs
 bundle_again : (b i s f x y z count : ℕ) (line : List ℕ) → AreLegs (x ∷ y ∷ z ∷ []) count → Spells (line_places (Bundle b i s f (x ∷ y ∷ z ∷ []) count)) line
     → line_of line ≡ Some (Bundle b i s f (x ∷ y ∷ z ∷ []) count)
 bundle_again b i s f x y z count line (inl two) spelled =

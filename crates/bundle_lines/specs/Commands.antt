@@ -1,4 +1,4 @@
--- The commands by their names, which are first words.
+-- The commands by their names. A name is the first word of a line.
 use Rattle.std.specs.Prelude.{ℕ, if◌then◌else◌, List, Option, Some, None, codes}
 use Rattle.std.specs.Str.{bytes_eq}
 use Rattle.bundle_lines.specs.declared.command.BundleCommand.{BundleCommand}

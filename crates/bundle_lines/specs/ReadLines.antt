@@ -10,7 +10,7 @@ use Rattle.bundle_lines.specs.declared.command.BundleCommand.TheVariants as comm
 use Rattle.bundle_lines.specs.declared.line.BundleLine.{BundleLine}
 use Rattle.bundle_lines.specs.declared.line.BundleLine.TheVariants as line
 
--- the first one that has a value
+-- the first of the two that has a value
 abbrev pub or_else : Option BundleLine → Option BundleLine → Option BundleLine
 or_else None other = other
 or_else (Some said) other = Some said
@@ -29,7 +29,7 @@ abbrev pub with_three_legs : List ℕ → Option BundleLine
 with_three_legs (bundle ∷ id ∷ ssrc ∷ first ∷ one ∷ two ∷ three ∷ []) = Some (line.Bundle bundle id ssrc first (one ∷ two ∷ three ∷ []) 3)
 with_three_legs numbers = None
 
--- ---- what follows the first word
+-- ---- the words after the first one
 
 abbrev pub two_legs_of : List ℕ → Option BundleLine
 two_legs_of rest = fields_of (Number32 ∷ Number8 ∷ Ssrc ∷ Number16 ∷ Number32 ∷ Number32 ∷ []) rest >>= with_two_legs
@@ -49,7 +49,7 @@ said_of command.Redraw rest = fields_of (Number32 ∷ Number16 ∷ []) rest >>= 
 
 -- ---- a line
 
--- the command about a bundle that a line says
+-- the command about a bundle that is in a line
 abbrev pub own_of : List ℕ → Option BundleLine
 own_of text = do
   parts ← cut text

@@ -1,4 +1,4 @@
-// The names of commands about bundles, which are the first words of lines.
+// The names of commands about bundles. A name is the first word of a line.
 ghost use Rattle.std.specs.Prelude.{◌≡◌};
 ghost use Rattle.bundle_lines.specs.Commands.{command_of};
 
@@ -12,7 +12,7 @@ pub enum BundleCommand {
     Redraw,
 }
 
-/// The command with this name; `None` if there is none.
+/// Returns the command with this name, or `None` if there is none.
 pub fn bundle_command(word: &[u8]) -> Option<BundleCommand>
     ensures { result ≡ command_of word.now }
 {

@@ -6,17 +6,17 @@ ghost use Rattle.bundle_lines.specs.declared.line.BundleLine.{BundleLine};
 ghost use Rattle.bundle_lines.specs.Lines.{IsBundleLine};
 ghost use Rattle.bundle_lines.specs.ReadLines.{line_of};
 
-/// A line is read as a bundle line exactly when the grammar gives it that meaning.
+/// A line is read with a meaning if and only if the grammar assigns this meaning to the line.
 pub fn reads_exactly_the_bundle_lines()
     ensures { (said : BundleLine) (line : List ℕ) → (line_of line ≡ Some said) ↔ IsBundleLine said line }
 {}
 
-/// A line has at most one meaning.
+/// The grammar assigns at most one meaning to a line.
 pub fn bundle_lines_say_one_thing()
     ensures { (one other : BundleLine) (line : List ℕ) → IsBundleLine one line → IsBundleLine other line → one ≡ other }
 {}
 
-/// Every line of a call is read as that call on the room.
+/// Every line of a call on the room is read as this call.
 pub fn every_line_of_a_call_says_it()
     ensures { (call : Call) (line : List ℕ) → IsLine call line → line_of line ≡ Some (BundleLine.Room call) }
 {}

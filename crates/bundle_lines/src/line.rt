@@ -7,8 +7,8 @@ use sfu_base::Call;
 pub enum BundleLine {
     /// A call on the room.
     Room(Call),
-    /// Creates a bundle. Its legs' tracks use this header extension id (RFC 8285, section 4). Its packets have this SSRC and sequence
-    /// numbers from `first` on. Its legs are the first `count` of `legs`, 2 or 3 subscribers; the other items of `legs` are 0.
+    /// Creates a bundle. Its legs are the first `count` items of `legs`, 2 or 3 subscribers; the other items are 0. The tracks of the legs use
+    /// the header extension id `id` (RFC 8285, section 4). The bundle's packets have the SSRC `ssrc`, and sequence numbers from `first` on.
     Bundle {
         bundle: u32,
         id: u8,
@@ -17,7 +17,7 @@ pub enum BundleLine {
         legs: [u32; 3],
         count: u8,
     },
-    /// The bundle is to forward its leg number `leg`, counted from 1.
+    /// Tells the bundle to forward its leg number `leg`, counted from 1.
     Choose {
         bundle: u32,
         leg: u8,

@@ -55,7 +55,7 @@ fn bundle(rest: &[u8]) -> Result<BundleLine, NoLine>
     }
 }
 
-// The meaning of a command about a bundle with these words after it.
+// Returns the meaning of a command about a bundle; `rest` are the line's further words.
 #[inline(always)]
 fn behind(command: BundleCommand, rest: &[u8]) -> Result<BundleLine, NoLine>
     ensures { result_ok result ≡ said_of command rest.now }
@@ -113,8 +113,8 @@ fn said(line: &[u8]) -> Result<BundleLine, NoLine>
     }
 }
 
-/// Reads a line, without its line end. `NoLine` exactly when the line has no meaning: it is neither the line of a call nor a command
-/// about a bundle. Takes no memory.
+/// Reads a line, without its line end. Returns `NoLine` exactly when the line has no meaning:
+/// it is neither the line of a call nor a command about a bundle. Allocates no memory.
 pub fn read_bundle_line(line: &[u8]) -> Result<BundleLine, NoLine>
     ensures value { result_ok result ≡ line_of line.now }
     ensures ok { IfOk result (λ said. IsBundleLine said line.now) }

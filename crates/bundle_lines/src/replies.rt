@@ -47,7 +47,7 @@ fn append_bundle_reply(reply: BundleReply, out: &mut Blob) -> Result<(), NoMemor
     }
 }
 
-/// Appends the line of a reply to the texts that are ready. On `NoMemory` these are unchanged.
+/// Appends the line of a reply to `ready`. On `NoMemory`, `ready` is unchanged.
 pub fn add_bundle_reply(reply: BundleReply, ready: &mut Blob) -> Result<(), NoMemory>
     ensures ok { OnOk result (ready.new ≡ ready.old ++ (bundle_reply_text reply ++ 10 ∷ [])) }
     ensures err { OnErr result (ready.new ≡ ready.old) }

@@ -35,8 +35,8 @@ fn numbers(line: &BundleLine) -> [u64; 9] {
     }
 }
 
-// Lines about bundles, each with its meaning. Numbers are 0 and the greatest of their type. Two numbers that change places change the
-// meaning.
+// Lines about bundles, each with its meaning. The numbers in them are 0 and the
+// greatest of their type. Exchanging two numbers of a line changes its meaning.
 const LINES: [(&[u8], [u64; 9]); 21] = [
     (
         b"bundle 1 4 55555555 10 1 2",
@@ -187,7 +187,7 @@ const CALLS: [&[u8]; 14] = [
     b"why 1 7",
 ];
 
-// Whether `write_call` may be called with this call.
+// Returns whether `write_call` may be called with this call.
 fn has_bytes(call: &Call) -> bool
     ensures { result ≡ true → HasBytes call.now }
 {
@@ -218,7 +218,7 @@ fn a_bundle_of_two_legs_begins(rt: HostRuntime) -> Result<(), Fail> {
     let BundleLine::Bundle { legs, count, .. } = line else {
         panic!(rt; "another line")
     };
-    assert_eq!(rt; (legs, count), ([1, 2, 0], 2)); // the first two count
+    assert_eq!(rt; (legs, count), ([1, 2, 0], 2)); // the first two items are the legs
     let line = read_bundle_line(b"take 1")?;
     assert!(rt; matches!(line, BundleLine::Room(Call::Take { subscriber: 1 })));
     Ok(())

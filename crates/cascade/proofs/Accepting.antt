@@ -1,4 +1,5 @@
--- What a subscriber of a layered track was given is accepted, in order, by a track of another room, if the packets that came to it are short.
+-- The packets that a subscriber of a layered track was given are accepted, in order,
+-- by a track of another room, if the packets that came to the first track are short.
 use Rattle.std.proofs.Common.{◌≡◌, ◌+◌, ◌*◌, ◌<◌, ◌≤◌, ◌^◌, ℕ, zero, suc, arith, Bool, true, false, cond, eqb, nat_lt, List, [], ◌∷◌, ◌++◌, length, map, take, refl, sym, ap, subst, ◌∙◌, Option, None, Some, Ok}
 use Rattle.std.specs.List.{AllByRecursion}
 use Rattle.std.proofs.lemmas.Bool.{cond-false, cond-true, eq-eqb, le-ltb}
@@ -41,7 +42,7 @@ use Rattle.cascade.proofs.Released.{CameWith, all_but_last, entries_have, of_las
 use Rattle.cascade.proofs.Standing.{given_more}
 use Rattle.cascade.proofs.Taken.{GivesInOrder, IsRtp, IsWhole, gives_in_order}
 
--- ---- accepted packets are ones that RTP reads
+-- ---- accepted packets are valid RTP
 
 more_read : (b : Bool) (came : List (List ℕ)) (bytes : List ℕ) → first_fault bytes ≡ None → AllByRecursion IsRtp came → AllByRecursion IsRtp (cond b (came ++ bytes ∷ []) came)
 more_read true [] bytes reads all = (reads, tt)
@@ -64,7 +65,7 @@ packets_read (call.KeyWanted track ∷ past) all n = packets_read past all.1 n
 packets_read (call.Plead subscriber ∷ past) all n = packets_read past all.1 n
 packets_read (call.Why subscriber number ∷ past) all n = packets_read past all.1 n
 
--- ---- what was given is short, and comes from the subscriber's SSRC
+-- ---- the packets given are short, and come from the subscriber's SSRC
 
 abbrev pub IsShort : List ℕ → Type 0
 IsShort bytes = length bytes ≤ 245
@@ -145,7 +146,7 @@ given_sound past calls s id i is kind short =
         (as_one (items_of (entries_of i.track past)) (entries_have IsOne past i.track (both came (each_of (λ bytes. IsMember bytes came) came (λ bytes m. m)) (packets_read past calls.well i.track))))
         245 (λ bytes m. each_member IsShort came bytes short m)
 
--- ---- the next packet is taken in
+-- ---- the next packet is accepted
 
 pub record TakesIn (past : List Call) (t moment : ℕ) (bytes : List ℕ) : Type 0 where
   pub done : answer past (call.Packet t moment bytes) ≡ Done
@@ -172,7 +173,7 @@ takes_in past calls t moment p bytes live order small sound left = record {
         (eq-eqb (ssrc_of bytes) p.ssrc sound.source)
         ∙ ap order_refusal judged.1
 
--- ---- and so is what a take gives, where all before it was
+-- ---- and so is the packet of a take, if all packets before it were
 
 all_of_small : (ssrc : ℕ) (xs : List (List ℕ)) → AllByRecursion (IsSound ssrc) xs → AllByRecursion IsSmall xs
 all_of_small ssrc [] all = tt

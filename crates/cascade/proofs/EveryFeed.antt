@@ -53,7 +53,7 @@ use Rattle.cascade.proofs.Moving.{none_waits, takes_waiting}
 use Rattle.cascade.proofs.Plainly.{AreCalls, goes_on}
 use Rattle.cascade.proofs.StreamSizes.{made_short, tick_count, ticks_few, ticks_in}
 
--- ---- who is there
+-- ---- the subscribers
 
 abbrev to_layered : Joined
 to_layered = joined_as 1 0x22222222 (wish_for 1 1)
@@ -94,7 +94,8 @@ record IsSecond (past : List Call) : Type 0 where
   three : joined 3 past ≡ Some third
   before : packets_on 2 (before_join 3 past) ≡ []
 
--- Both tracks are fed. At most this many packets were given to both subscribers of the first room, and are queued for the third of the second.
+-- Both tracks are fed. At most this number of packets were given to both subscribers
+-- of the first room, and are queued for the third subscriber of the second.
 record AreBetween (most1 most2 waits : ℕ) (first second : List Call) : Type 0 where
   layered : packets_on 1 second ≡ given_to 1 first
   plain : packets_on 2 second ≡ given_to 2 first
@@ -125,7 +126,7 @@ weaker a b w a' b' w' first second h la lb lw = record {
   };
 }
 
--- ---- what one call keeps of a room
+-- ---- the facts about a room that one call preserves
 
 first_takes : (n : ℕ) (past : List Call) → is_accepted (answer past (call.Take n)) ≡ true → IsFirst past → IsFirst (call.Take n ∷ past)
 first_takes n past e h = record { calls = record { well = (tt, h.calls.well); all = (e, h.calls.all) }; kind_is = h.kind_is; layered = h.layered; plain = h.plain; short = h.short }
@@ -451,7 +452,7 @@ third_takes (suc count) a b first past h few =
         (omega (arith, lowers, few))
     go other e on = empty (none_waits past h.is_second.calls.all 3 third h.is_second.three (λ bytes k. let no : other ≡ Sent bytes = sym e ∙ k in cc))
 
--- ---- a tick, an event, and all of them
+-- ---- a tick, an event, and all events
 
 tick_holds : (a b m : ℕ) (both : Both) → HoldOf a b 0 both → a + 70000 < 2 ^ 46 → b + 70000 < 2 ^ 46 → HoldOf (a + 513) (b + 513) 0 (after_tick m both)
 unfolding after_tick

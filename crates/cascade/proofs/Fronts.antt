@@ -19,7 +19,7 @@ module _ {S : Type 0} (format : Format S) where
   front_pleases (Complaining c) [] ys h = absurd (let no : Some c ≡ None = sym (ap complaint_of (keeps_complaining c ys)) ∙ h in cc)
   front_pleases r (x ∷ xs) ys h = front_pleases (receive format r x) xs ys h
 
-  -- about the first packets, if there is none about all
+  -- about the first packets, if there is no complaint about all packets
   pub first_please : (f : List ℕ → Option Packet) (k : ℕ) (came : List (List ℕ)) → complaint format (map f came) ≡ None → complaint format (map f (take k came)) ≡ None
   first_please f k came h =
       front_pleases Waiting (map f (take k came)) (map f (drop k came))

@@ -1,4 +1,4 @@
--- Each packet that goes out of a layered track that was fed is one that was taken.
+-- Each packet forwarded from a layered track that was fed is one that was taken.
 use Rattle.std.proofs.Common.{◌≡◌, ◌⊎◌, inl, inr, ◌+◌, ◌*◌, ◌%◌, ◌≤◌, ℕ, arith, Bool, true, false, ◌||◌, cond, List, [], ◌∷◌, ◌++◌, refl, sym, ap, subst, ◌∙◌, map, length, Option, None, Some}
 use Rattle.std.specs.Prelude.{IfSome}
 use Rattle.std.specs.List.{AllByRecursion}
@@ -62,7 +62,7 @@ module _ (took : List (List ℕ)) where
     pub reads : first_fault bytes ≡ None
     pub is : p ≡ packet_of bytes
 
-  -- the packet has these bytes, or the same with another mask, but for its number, SSRC and marker
+  -- the packet has these bytes, or the same bytes with another mask, except for its number, SSRC and marker
   record Carries (id : ℕ) (q : Packet) : Type 0 where
     bytes : List ℕ
     member : IsMember bytes took
@@ -83,7 +83,7 @@ module _ (took : List (List ℕ)) where
     rest_is = ap (λ (q : Packet). q.rest) c.is;
   }
 
-  -- ---- what is sent
+  -- ---- sent packets
 
   record IsMaskedSo (id : ℕ) (bytes masked : List ℕ) : Type 0 where
     is_masked : (masked ≡ bytes) ⊎ IsMasked id bytes masked
@@ -137,7 +137,7 @@ module _ (took : List (List ℕ)) where
       let mask = mask_for frame.meaning (open_target target) in
       marked_carries id (is_top_layer frame.meaning target) (with_told id frame tells mask).packets (with_told_carries id frame tells mask all)
 
-  -- ---- what goes out
+  -- ---- forwarded packets
 
   forwarded_carries : (id : ℕ) (wish : Wish) (events : List Happened) → IsLayered events → AllByRecursion (λ frame. AllByRecursion CameAs frame.packets) (frames_of events)
       → AllByRecursion (Carries id) (forwarded (sent (Layered id)) wish events)
@@ -174,7 +174,7 @@ module _ (took : List (List ℕ)) where
     out_carries id (n + 1) ssrc ps all.1,
   )
 
-  -- so if each of these has at most this many bytes, what goes out has
+  -- so if each of these has at most this number of bytes, each forwarded packet has
   out_short : (most : ℕ) → ((bytes : List ℕ) → IsMember bytes took → length bytes ≤ most) → (id n ssrc : ℕ) (ps : List Packet) → AllByRecursion (Carries id) ps
       → AllByRecursion (λ new. length new ≤ 276 + 4 * most) (map bytes_of (numbered n ssrc ps))
   out_short most each id n ssrc [] all = tt
@@ -214,7 +214,7 @@ first_frames : (P : Frame TemplateStructure → Type 0) (xs ys : List (Frame Tem
 first_frames P [] ys h = tt
 first_frames P (x ∷ xs) ys h = (h.0, first_frames P xs ys h.1)
 
--- ---- all that goes out of a layered track is of these packets, where each that came is
+-- ---- all packets forwarded from a layered track are of these packets, if each packet that came is
 
 module _ (took : List (List ℕ)) (past : List Call) (u id : ℕ) (j : Joined) (kind : kind_of j.track past ≡ Layered id)
     (items_came : AllByRecursion (ItemHas (CameAs took)) (items_of (entries_of j.track past))) where

@@ -1,4 +1,4 @@
--- The bits of a mask: of that of all targets, and of that of the targets that a subscriber is sent.
+-- The bits of a mask: of the mask of all targets, and of the mask of the targets that a subscriber is sent.
 use Rattle.std.proofs.Common.{◌≡◌, ◌+◌, ◌-◌, ◌*◌, ◌/◌, ◌%◌, ◌^◌, ◌<◌, ◌≤◌, ℕ, zero, suc, arith, Bool, true, false, inl, inr, sym, ap, subst, ◌∙◌, cond, Option, Some}
 use Rattle.std.specs.Prelude.{◌==◌, nat_le}
 use Rattle.std.proofs.lemmas.Bool.{and_from, cases_lt, eqb-true, eq-eqb, le-leb}
@@ -17,12 +17,12 @@ use Rattle.target_selector.proofs.TargetBits.{mask_small, targets_small}
 abbrev pub HasBit : ℕ → ℕ → Type 0
 HasBit mask t = ((mask / 2 ^ t) % 2 == 1) ≡ true
 
--- the target's bit is set, and only bits of the first targets, this many
+-- the target's bit is set, and only bits of the first targets are set
 pub record IsMaskOf (count target mask : ℕ) : Type 0 where
   pub own : HasBit mask target
   pub few : (t : ℕ) → HasBit mask t → t < count
 
--- a mask of this many bits has no others
+-- a mask of this number of bits has no others
 few_bits : (count mask t : ℕ) → mask < 2 ^ count → HasBit mask t → t < count
 few_bits count mask t small bit = elim (cases_lt t count) [
   | inl low ↦ low
@@ -38,7 +38,7 @@ few_bits count mask t small bit = elim (cases_lt t count) [
 two_times : (n : ℕ) → 2 ^ (n + 1) ≡ 2 * 2 ^ n
 two_times n = omega (arith, pow-add 2 n 1)
 
--- 2 ^ (t + 1 + k) less 1 is a number below 2 ^ t, and 2 ^ t, and a multiple of twice that
+-- 2 ^ (t + 1 + k) - 1 is the sum of a number below 2 ^ t, of 2 ^ t, and of a multiple of twice that
 pub all_active : (layout : Layout) (t : ℕ) → t < layout.target_count → HasBit (all_targets layout) t
 all_active layout t low = eq-eqb (all_targets layout / 2 ^ t % 2) 1 (go (layout.target_count - t - 1) (omega arith))
   where
@@ -57,7 +57,7 @@ all_active layout t low = eq-eqb (all_targets layout / 2 ^ t % 2) 1 (go (layout.
 
 -- ---- the targets that a subscriber gets
 
--- lower bits are unchanged when a higher one is added
+-- lower bits don't change when a higher one is added
 bit_below : (x k t : ℕ) → t < k → HasBit x t → HasBit (x + 2 ^ k) t
 bit_below x k t low bit = eq-eqb ((x + 2 ^ k) / 2 ^ t % 2) 1 (go (k - t - 1) (omega arith))
   where

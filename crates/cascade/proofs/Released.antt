@@ -1,4 +1,4 @@
--- What holds for each packet that a track accepted holds for each that its order releases.
+-- A fact about each packet that a track accepted is one about each packet that its reorder window releases.
 use Rattle.std.proofs.Common.{◌≡◌, ◌-◌, ◌+◌, ℕ, Bool, true, false, cond, nat_lt, nat_le, eqb, List, [], ◌∷◌, ◌++◌, refl, sym, subst, Result, Ok, Err}
 use Rattle.std.specs.List.{AllByRecursion}
 use Rattle.sfu_base.specs.declared.call.Call.{Call}
@@ -41,13 +41,13 @@ module _ (P : List ℕ → Type 0) where
   EventHas (Arrives sequence moment bytes) = P bytes
   EventHas (Ticks moment) = Unit {0}
 
-  -- the packet is one of bytes for which it holds
+  -- the packet is one of bytes of which the fact is true
   pub record CameWith (p : Packet) : Type 0 where
     pub bytes : List ℕ
     pub holds : P bytes
     pub is : p ≡ packet_of bytes
 
-  -- ---- the order
+  -- ---- the reorder window
 
   gap_has : (from end : ℕ) → AllByRecursion PieceHas (gap from end)
   gap_has from end = go (nat_lt from end)
@@ -154,7 +154,7 @@ module _ (P : List ℕ → Type 0) where
       (released_has past n (Arrives (sequence_of bytes) moment bytes) (events_have past n front) (of_last P (packets_on n past) bytes all)) (rest front)
   packet_releases false moment bytes past n rest all = rest all
 
-  -- the items of a track are packets for which it holds, if it holds for each packet that the track accepted
+  -- the items of a track are packets of which the fact is true, if it is true of each packet that the track accepted
   pub entries_have : (past : List Call) (n : ℕ) → AllByRecursion P (packets_on n past) → AllByRecursion (ItemHas CameWith) (items_of (entries_of n past))
   entries_have [] n all = tt
   entries_have (call.Publish track kind ssrc hold ∷ past) n all = entries_none (eqb track n) (entries_of n past) (entries_have past n all)

@@ -62,7 +62,7 @@ front_of_front (x ∷ xs) ys (u ∷ us) vs e short =
     let r = front_of_front xs ys us vs rest (omega arith) in
     (r.0, ap (λ (z : _). z ∷ us) (sym same) ∙ ap (λ l. x ∷ l) r.1)
 
--- enough was taken that the first part is complete
+-- enough packets were taken that the first part is complete
 takes_front : {X : Type 0} (n : ℕ) (xs ys : List X) → length xs ≤ n → take n (xs ++ ys) ≡ xs ++ take (n - length xs) ys
 takes_front n [] ys few = ap (λ k. take k ys) (let e : n ≡ n - 0 = omega arith in e)
 takes_front zero (x ∷ xs) ys few = absurd (omega arith)
@@ -168,7 +168,7 @@ module _ (h1 h2 : List Served) (s t u id : ℕ) (i j : Joined) (p : Published) (
   sends : SendsRun id i.wish since past k target
   sends = sends_run id i.wish (frames_after format (items_of entries1)) since past k target known track1 run.key run.passed still_open
 
-  -- ---- what was taken
+  -- ---- the packets taken
 
   abbrev key_packets : List Packet
   key_packets = send k (candidate_at (standing i.wish past) k.meaning)
@@ -214,7 +214,7 @@ module _ (h1 h2 : List Served) (s t u id : ℕ) (i j : Joined) (p : Published) (
   came : CameSince u t j second
   came = came_since second (accepted_are h2) u t j joins (subst AreInOrder (sym fed.packets) gives.order) (subst (AllByRecursion IsSmall) (sym packets) (all_small took gives.all))
 
-  -- ---- what it makes on the second track
+  -- ---- the frames that they make on the second track
 
   abbrev before_out : List Packet
   before_out = numbered i.first i.ssrc before_packets
@@ -269,7 +269,7 @@ module _ (h1 h2 : List Served) (s t u id : ℕ) (i j : Joined) (p : Published) (
       ∙ ap (λ (l : List (Frame TemplateStructure)). frames_since format items2 (arrivals laid_out_is.rest []) ++ l)
       (others_came.1.frames ∙ ap (λ (l : List (Frame TemplateStructure)). others_came.0 ++ l) key_came.1.frames)
 
-  -- ---- and of u's timeline
+  -- ---- and the frames of u's timeline
 
   abbrev joined_packets : List Packet
   joined_packets = map packet_of (packets_on t (before_join u second))

@@ -1,4 +1,4 @@
--- What is sent of a frame, in an epoch without masks, is the same frame, with all targets active or those that the subscriber is sent.
+-- The sent packets of a frame, in an epoch without masks, are the same frame, with all targets active or only those that the subscriber is sent.
 use Rattle.std.proofs.Common.{◌≡◌, ◌⊎◌, inl, inr, ◌+◌, ◌%◌, ◌<◌, ◌^◌, ℕ, Bool, true, false, ◌||◌, cond, List, [], ◌∷◌, map, Option, None, Some, refl, sym, ap, subst, ◌∙◌}
 use Rattle.std.specs.List.{AllByRecursion}
 use Rattle.sfu_base.specs.Frame.{IsValid}
@@ -32,7 +32,7 @@ use Rattle.cascade_laws.specs.Unmasked.{IsUnmasked, SaysNoMask}
 use Rattle.cascade_laws.specs.Handing.{IsSentOn}
 use Rattle.cascade.proofs.MaskBits.{HasBit, IsMaskOf, all_active, all_mask, mask_has}
 
--- what is known of a frame of the run, whose target has these layers
+-- facts about a frame of the run, whose target has these layers
 pub record IsFrameOfRun (format : Format TemplateStructure) (s : TemplateStructure) (target : ℕ) (most : Wish) (frame : Frame TemplateStructure) : Type 0 where
   pub structure : frame.structure ≡ s
   pub valid : IsValid frame.meaning
@@ -47,14 +47,14 @@ pub record IsFrameOfRun (format : Format TemplateStructure) (s : TemplateStructu
 same_shown : (d e : Descriptor TemplateStructure) (p q : Payload) → Shows d p ≡ Shows e q → d ≡ e
 same_shown d e p q h = cc
 
--- ---- of what is read by the structure s
+-- ---- packets that are read with the structure s
 
 module _ (id : ℕ) (s : TemplateStructure) (f : FrameMeaning) (facts : IsFormat (the_format id)) (read : IsReadBy (the_format id) s f) (Masks : ℕ → Type 0)
     (all : Masks (all_targets ((the_format id).layout s))) where
   abbrev reader : Format TemplateStructure
   reader = the_format id
 
-  -- a structure that is carried, if not by a key start, is this one
+  -- a structure that a packet carries, unless the packet starts a key frame, is this one
   same_structure : (rest : List ℕ) (d : Descriptor TemplateStructure) (joins : Joins) → ReadsAs reader (Some s) rest d joins → is_key_start d ≡ false → (t : TemplateStructure)
       → d.structure ≡ Some t → t ≡ s
   same_structure rest d joins reads no_key t has =
@@ -161,7 +161,7 @@ module _ (id : ℕ) (s : TemplateStructure) (f : FrameMeaning) (facts : IsFormat
   either_way true (p ∷ ps) mask small masked whole told none = as_told p ps mask small masked whole told none
   either_way false (p ∷ ps) mask small masked whole told none = (told, as_it_was p ps whole none)
 
--- ---- what is sent
+-- ---- the sent packets
 
 rests_marked : (is_last : Bool) (ps : List Packet) → map rest_of (marked is_last ps) ≡ map rest_of ps
 rests_marked is_last [] = refl

@@ -15,7 +15,7 @@ use Rattle.packet_format.specs.Remasked.{at_most, new_value, remasked, with_exte
 
 -- ---- elements
 
--- at most this many bytes in either form
+-- at most this number of bytes in either form
 abbrev total : List PlainElement → ℕ
 total [] = 0
 total (e ∷ es) = 2 + length e.value + total es

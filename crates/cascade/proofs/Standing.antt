@@ -1,4 +1,4 @@
--- What each call does to a cascade of two rooms.
+-- The effect of each call on a cascade of two rooms.
 use Rattle.std.proofs.Common.{◌≡◌, ◌⊎◌, inl, inr, ◌+◌, ◌-◌, ◌<◌, ◌≤◌, ℕ, zero, suc, arith, eqb, Bool, true, false, cond, List, [], ◌∷◌, ◌++◌, length, refl, sym, ap, subst, ◌∙◌, append_assoc, true≢false}
 use Rattle.std.specs.Prelude.{IsTrue}
 use Rattle.std.proofs.lemmas.Bool.{eq-eqb}
@@ -26,7 +26,7 @@ use Rattle.cascade.specs.declared.endpoint.Endpoint.{Endpoint}
 use Rattle.cascade.proofs.Keeping.{one_brought, refused_take}
 use Rattle.cascade.proofs.Moving.{IsTakeAnswer, moved_at_most, one_taken, take_shape}
 
--- ---- calls that take no memory
+-- ---- calls that allocate no memory
 
 pub not_starved : (starved : Bool) (c : Call) → (TakesMemory c → ⊥) → (IsTrue starved → TakesMemory c ⊎ IsTrue false) → starved ≡ false
 not_starved false c free cause = refl
@@ -83,19 +83,19 @@ takes_none old new endpoint n r bytes numbers past serves fed other s =
       fed = λ taken was. was;
     }
 
--- what a take returned is given
+-- the packet that a take returned is given
 pub given_more : (n : ℕ) (past : List Call) (bytes : List ℕ) → answer past (call.Take n) ≡ Sent bytes → given_to n (call.Take n ∷ past) ≡ given_to n past ++ bytes ∷ []
 given_more n past bytes gave =
     ap (λ (b : Bool). cond b (and_sent (given_to n past) (answer past (call.Take n))) (given_to n past)) (eq-eqb n n refl) ∙ ap (and_sent (given_to n past)) gave
 
--- so far these calls were accepted, of all that are made, and the receiver was fed what they returned
+-- so far these calls were accepted, of all that are made, and the receiver was fed the packets that they returned
 pub record HasTaken (count : ℕ) (room : Room KeepNone) (from endpoint : Endpoint) (n : ℕ) (past : List Call) : Type 0 where
   pub now : List Call
   pub room_is : StandsAfter room now
   pub fed : WasFed from (given_to n past) → WasFed endpoint (given_to n now)
   pub all : taken_on (513 - count) n now ≡ taken_on 513 n past
 
--- all calls were
+-- all calls were accepted
 pub record TookAll (room : Room KeepNone) (from endpoint : Endpoint) (n : ℕ) (past : List Call) : Type 0 where
   pub room_is : StandsAfter room (all_taken n past)
   pub fed : WasFed from (given_to n past) → WasFed endpoint (given_to n (all_taken n past))
@@ -141,7 +141,7 @@ unfolding taken_on
 over_taking count room from endpoint n past over h =
     took_all room from endpoint n past h.now (sym (ap (λ (k : ℕ). taken_on k n h.now) (let e : 513 - count ≡ 0 = omega arith in e)) ∙ h.all) h.room_is h.fed
 
--- a take of another subscriber gives it nothing
+-- a take of another subscriber returns nothing to it
 pub given_other : (count n m : ℕ) (past : List Call) → eqb n m ≡ false → given_to m (taken_on count n past) ≡ given_to m past
 unfolding taken_on
 given_other zero n m past e = refl

@@ -49,7 +49,7 @@ made_short p =
     let c = payload_short p in
     omega (arith, a, b, c, length-append (header p) (extension p), length-append (header p ++ extension p) (payload p))
 
--- ---- how many there are
+-- ---- the number of packets
 
 count_small : (frame : ℕ) → packet_count frame ≤ 3
 count_small frame = go (is_upper frame) (is_key_unit frame)

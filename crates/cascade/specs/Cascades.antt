@@ -35,15 +35,15 @@ use Rattle.cascade_laws.specs.Running.{AllLeaveOpen}
 use Rattle.cascade_laws.specs.Unmasked.{TellNoMask}
 use Rattle.cascade.specs.Fed.{IsFed, before_join, packets_on, readdressed_all}
 
--- Each call is one that the code can receive: SSRCs have 32 bits, and packets are valid RTP packets. This holds for each history that a room
--- represents.
+-- Each call is one that the code can receive: SSRCs have 32 bits, and
+-- packets are valid RTP. This is so in each history that a room represents.
 pub record AreOfRooms (h1 h2 : List Entry) : Type 0 where
   pub first : AreWellFormed (accepted h1)
   pub second : AreWellFormed (accepted h2)
 
 -- ---- a plain second track
 
--- none of its packets found 512 packets queued
+-- each of its packets found fewer than 512 packets queued
 abbrev pub FindRoom : Wish → List Happened → Type 0
 FindRoom wish [] = Unit {0}
 FindRoom wish (WholeFrame frame ∷ past) = FindRoom wish past
@@ -51,8 +51,8 @@ FindRoom wish (PlainPacket packet ∷ past) = ((standing wish past).queued < 512
 FindRoom wish (WishChange changed ∷ past) = FindRoom wish past
 FindRoom wish (Take ∷ past) = FindRoom wish past
 
--- All packets forwarded to u, who joined the track this way, are those that s took since then, with u's numbers and SSRC. If s's track is layered and
--- u joined before the first packet, a strict receiver has no complaint about them.
+-- The packets forwarded to u, which joined the track as j, are those that s took since then, with u's numbers and
+-- SSRC. If s's track is layered and u joined before the first packet, a strict receiver has no complaint about them.
 pub record GoesOnPlain (first : List Call) (s : ℕ) (i : Joined) (second : List Call) (t u : ℕ) (j : Joined) : Type 0 where
   pub suffix : going_out u j second ≡ readdressed_all j.first j.ssrc (drop (length (packets_on t (before_join u second))) (given_to s first))
   pub pleases : (id : ℕ) → kind_of i.track first ≡ Layered id → packets_on t (before_join u second) ≡ []
@@ -65,8 +65,8 @@ PlainTracksGoOn = (h1 h2 : List Entry) (s t u : ℕ) (i j : Joined) (p : Publish
 
 -- ---- a layered second track
 
--- The packet with a mask in its descriptor, by the structure in force: its header extension is rewritten with the mask, and all other bits, including
--- the CSRC words, are unchanged.
+-- The packet with a mask in its descriptor, by the structure in force. Its header extension
+-- is rewritten with the mask; all other bits, including the CSRC words, are unchanged.
 pub record IsMasked (id : ℕ) (bytes masked : List ℕ) : Type 0 where
   pub force : Option TemplateStructure
   pub mask : ℕ
@@ -74,7 +74,7 @@ pub record IsMasked (id : ℕ) (bytes masked : List ℕ) : Type 0 where
   pub csrcs : take (4 * csrc_count bytes) (drop 12 masked) ≡ take (4 * csrc_count bytes) (drop 12 bytes)
   pub stays : IsRemasked id bytes masked
 
--- the packet with another number, SSRC and marker, and perhaps with another mask
+-- the packet with another number, SSRC and marker, and possibly with another mask
 pub record IsPassedOn (id : ℕ) (bytes new : List ℕ) : Type 0 where
   pub sequence : ℕ
   pub ssrc : ℕ
@@ -94,9 +94,9 @@ LayeredTracksGoOn = (h1 h2 : List Entry) (s t u id : ℕ) (i j : Joined) (p : Pu
 
 -- ---- frames that pass in both rooms
 
--- A run of frames in s's timeline: a key frame k that passed, and the frames that passed since, to the newest of these events. All their packets
--- were taken. k opened this target, and since then no rule closed it and no other target was opened, so no other key frame passed. The wish
--- was this one all the time. No descriptor of the epoch carries a mask, and consecutive frames differ by less than 32,768 in number.
+-- A run of frames in s's timeline: a key frame k that passed, and the frames that passed since, up to the newest of these events. All their
+-- packets were taken. k opened this target. Since then no rule closed it and no other target was opened, so no other key frame passed. The
+-- wish was the same all the time. No descriptor of the epoch carries a mask, and the numbers of consecutive frames differ by less than 32,768.
 pub record IsRun (id : ℕ) (i : Joined) (first : List Call) (events later since past : List Happened) (k : Frame TemplateStructure)
     (target : ℕ) (now : Wish) : Type 0 where
   pub laid : events ≡ later ++ (since ++ WholeFrame k ∷ past)
@@ -110,7 +110,7 @@ pub record IsRun (id : ℕ) (i : Joined) (first : List Call) (events later since
   pub no_mask : TellNoMask k.meaning.epoch (said (format_of id) (items_of (entries_of i.track first)))
   pub near : AreNear k.meaning (map meaning_of (passed_since i.wish since (WholeFrame k ∷ past)))
 
--- The same run in u's timeline: a key frame for k and a frame for each of the others, in order, with no others between.
+-- The same run in u's timeline: a key frame for k, then a frame for each of the others, in order, with no others between.
 pub record IsRunAgain (events later since past : List Happened) (k : Frame TemplateStructure) (passed : List (Frame TemplateStructure))
     (target : ℕ) (by : Shift) (again : Frame TemplateStructure) : Type 0 where
   pub laid : events ≡ later ++ (since ++ WholeFrame again ∷ past)
@@ -125,7 +125,7 @@ pub record HasWishAndRoom (wish now : Wish) (since past : List Happened) (again 
   pub first_has_room : IsNotFull (standing wish past) again.meaning (length again.packets)
   pub others_have_room : NoneIsFull wish since (WholeFrame again ∷ past)
 
--- each of these frames passed to u, and both subscribers have corresponding states
+-- each of these frames passed to u, and the states of both subscribers correspond
 pub record PassesAgain (wish second_wish now : Wish) (since past second_since second_past : List Happened)
     (k again : Frame TemplateStructure) (target : ℕ) (by : Shift) : Type 0 where
   pub first : passes_at (standing second_wish second_past) again.meaning (length again.packets) ≡ true
@@ -133,7 +133,7 @@ pub record PassesAgain (wish second_wish now : Wish) (since past second_since se
   pub alike : StandAlike by target k.meaning.number again.meaning.number again.meaning.epoch now (standing wish (since ++ WholeFrame k ∷ past))
       (standing second_wish (second_since ++ WholeFrame again ∷ second_past))
 
--- the consequence of a run: the same run in u's timeline; each of its frames passes to u if u has that wish and space in its queue
+-- The consequence of a run: the same run is in u's timeline. Each of its frames passes to u if u has that wish and its queue has space.
 pub record RunsOn (wish now : Wish) (since past : List Happened) (k : Frame TemplateStructure) (target : ℕ)
     (second_wish : Wish) (events : List Happened) : Type 0 where
   pub later : List Happened

@@ -1,4 +1,4 @@
--- The command `cascade`: its statuses and what each means, and the calls of its rooms. Own rule.
+-- The command `cascade`: its statuses and their meanings, and the calls of its rooms. Own rule.
 use Rattle.std.specs.Prelude.{◌≡◌, ◌⊎◌, ℕ, List, [], Option}
 use Rattle.std.specs.Io.KnownBytes.{Appends}
 use Rattle.sfu_base.specs.Faults.{Rose}
@@ -8,7 +8,7 @@ use Rattle.stream_maker.specs.Stream.{Stream}
 use Rattle.cascade.specs.Summary.{cascade_calls, cascade_text}
 use Rattle.cascade.specs.Whole.{FeedsAll, HoldsOf}
 
--- The summary was written; or the sink failed before all of it was; or memory ran out, and nothing was written.
+-- The summary was written; or the sink failed before all of it was written; or memory ran out, and nothing was written.
 pub record ShowsCascade (s : Stream) (written written' : Option (List ℕ)) (writes writes' status : ℕ) : Type 0 where
   pub done : status ≡ 0 → Appends written written' (cascade_text s)
   pub sink : status ≡ 4 → Rose writes writes'

@@ -1,4 +1,4 @@
--- What one step of a feed does, and the state after some steps. No public clause cites these.
+-- The effect of one step of a feed, and the state after some steps. No public clause cites these definitions.
 use Rattle.std.specs.Prelude.{◌≡◌, ◌⊎◌, ℕ, false, List, [], ◌∷◌, ◌++◌, length, Option, None, Some}
 use Rattle.sfu_base.specs.Answer.{Done, Sent}
 use Rattle.sfu_base.specs.declared.call.Call.TheVariants as call
@@ -39,7 +39,7 @@ abbrev pub MovesOrEnds : {A B : Type 0} → (A → Option (List Noted)) → (B �
 MovesOrEnds notedA notedB new1 new2 subscriber track moment None h1 h2 = MovesOne notedA notedB new1 new2 subscriber track moment h1 h2
 MovesOrEnds notedA notedB new1 new2 subscriber track moment (Some end) h1 h2 = EndsSo notedA notedB new1 new2 subscriber track moment end h1 h2
 
--- this many packets were moved
+-- `count` packets were moved
 pub record HasMoved {A B : Type 0} (notedA : A → Option (List Noted)) (notedB : B → Option (List Noted)) (count : ℕ) (now1 : Room A) (now2 : Room B)
     (subscriber track moment : ℕ) (h1 h2 : List Entry) : Type 0 where
   pub packets : List (List ℕ)

@@ -1,4 +1,4 @@
--- What the parts of a cascade represent while it runs. No public clause but those of the rooms cites these.
+-- What the parts of a cascade represent while it runs. Only the clauses of the rooms cite these definitions.
 use Rattle.std.specs.Prelude.{◌≡◌, ℕ, Bool, true, false, List, [], ◌∷◌, ◌++◌, Option, None, is_some}
 use Rattle.sfu_base.specs.Answer.{Refused, Sent}
 use Rattle.sfu_base.specs.declared.call.Call.{Call}
@@ -16,7 +16,7 @@ use Rattle.cascade.specs.Calls.{Both}
 use Rattle.cascade.specs.declared.endpoint.Endpoint.{Endpoint}
 use Rattle.cascade.specs.declared.two_rooms.TwoRooms.{TwoRooms}
 
--- a recorder that stores nothing reports nothing
+-- a recorder that stores nothing shows no calls
 abbrev pub untold : KeepNone → Option (List Noted)
 untold recorder = None
 
@@ -32,14 +32,14 @@ pub record WasFed (endpoint : Endpoint) (taken : List (List ℕ)) : Type 0 where
   pub stands : StandsFor endpoint.receiver taken
   pub complains_is : endpoint.complains ≡ is_some (complaint_over 4 taken)
 
--- one take: it returned a packet, which the receiver was fed
+-- one take: it returned a packet, and the receiver was fed this packet
 pub record TakesNext (old new : Endpoint) (room : Room KeepNone) (n : ℕ) (past : List Call) : Type 0 where
   pub bytes : List ℕ
   pub gave : answer past (call.Take n) ≡ Sent bytes
   pub room_is : StandsAfter room (call.Take n ∷ past)
   pub fed : (taken : List (List ℕ)) → WasFed old taken → WasFed new (taken ++ bytes ∷ [])
 
--- or it was refused, and the receiver was fed nothing
+-- a take that was refused: the receiver was fed nothing
 pub record TakesNone (old new : Endpoint) (room : Room KeepNone) (n : ℕ) (past : List Call) : Type 0 where
   pub why : Refusal
   pub refused : answer past (call.Take n) ≡ Refused why

@@ -1,4 +1,4 @@
--- What holds for feeds and takes until a call is refused, and for the calls of every cascade. Own statements.
+-- Facts about feeds and takes until a call is refused, and about the calls of every cascade. Own statements.
 use Rattle.std.specs.Prelude.{◌≡◌, ◌≤◌, ◌+◌, ℕ, List, None, Some}
 use Rattle.sfu_base.specs.declared.call.Kind.TheVariants.{Layered, Plain}
 use Rattle.sfu_base.specs.declared.frame.Wish.{Wish}
@@ -11,7 +11,7 @@ use Rattle.cascade.specs.Calls.{Both, all_fed, all_taken, fed_on, taken_on, wish
 use Rattle.cascade.specs.Fed.{IsFed}
 use Rattle.cascade.specs.Summary.{cascade_calls}
 
--- ---- the limits are high enough: a greater one changes nothing, so a call was refused
+-- ---- the limits are high enough: a call was refused before, so a greater limit changes nothing
 
 abbrev pub TakesAreEnough : Type 0
 TakesAreEnough = (h : List Entry) (n more : ℕ) → taken_on (513 + more) n (accepted h) ≡ all_taken n (accepted h)
@@ -26,7 +26,7 @@ FeedsAreEnough = (h1 h2 : List Entry) (s t moment more : ℕ)
 abbrev pub joined_as : ℕ → ℕ → Wish → Joined
 joined_as track ssrc wish = record { track = track; ssrc = ssrc; first = 0; wish = wish }
 
--- The tracks are published, and each subscriber joined with its values: none of the opening's calls was refused.
+-- The tracks are published, and each subscriber has joined with its own values: no call of the opening was refused.
 pub record HaveJoined (both : Both) : Type 0 where
   pub source : published 1 both.first ≡ Some (record { kind = Layered 4; ssrc = 0x11111111; hold = 50 })
   pub to_layered : joined 1 both.first ≡ Some (joined_as 1 0x22222222 (wish_for 1 1))
@@ -37,7 +37,7 @@ pub record HaveJoined (both : Both) : Type 0 where
   pub two : joined 2 both.second ≡ Some (joined_as 1 0x33333334 (wish_for 0 0))
   pub three : joined 3 both.second ≡ Some (joined_as 2 0x33333335 (wish_for 0 0))
 
--- A strict receiver has no complaint about what each subscriber of the layered track took.
+-- A strict receiver has no complaint about the packets that each subscriber of the layered track took.
 pub record ArePleased (both : Both) : Type 0 where
   pub one : complaint_over 4 (given_to 1 both.second) ≡ None
   pub two : complaint_over 4 (given_to 2 both.second) ≡ None
@@ -49,7 +49,7 @@ pub record HoldsOf (both : Both) : Type 0 where
 abbrev pub CascadesHold : Type 0
 CascadesHold = (s : Stream) → HoldsOf (cascade_calls s)
 
--- Each track of the second room was fed with the packets that its subscriber of the first room took, so no packet of a feed was refused.
+-- Each track of the second room was fed with the packets of its subscriber of the first room, so no packet of a feed was refused.
 pub record AreFed (both : Both) : Type 0 where
   pub layered : IsFed both.first 1 (joined_as 1 0x22222222 (wish_for 1 1)) both.second 1 (record { kind = Layered 4; ssrc = 0x22222222; hold = 50 })
   pub plain : IsFed both.first 2 (joined_as 1 0x22222223 (wish_for 1 1)) both.second 2 (record { kind = Plain; ssrc = 0x22222223; hold = 50 })

@@ -1,9 +1,11 @@
-// One subscriber of the second room, and a strict receiver of the packets that it takes.
+// One subscriber, and a strict receiver of the packets that it takes.
 ghost use Rattle.std.specs.Prelude.{◌++◌, ◌∷◌, [], List, ℕ, IfOk};
 ghost use Rattle.sfu_base.specs.declared.call.Call.{Call};
 ghost use Rattle.room_core.specs.Given.{given_to};
 ghost use Rattle.cascade.specs.Calls.{all_taken};
+ghost use Rattle.cascade.specs.Staged.{IsFedAfter, TakesQueued};
 ghost use Rattle.cascade.specs.Standing.{StandsAfter, TakesOne, WasFed};
+ghost use Rattle.cascade.specs.Trial.{after_takes};
 
 use room_core::{KeepNone, Room};
 use sfu_base::{NoMemory, Reply, Scratch};
@@ -19,7 +21,7 @@ pub const EXTENSION: u8 = 4;
 // The capacity of a subscriber's queue, in packets.
 const MOST_QUEUED: u32 = 512;
 
-/// The receiving side of a subscriber of the second room: a strict receiver of its packets.
+/// The receiving side of a subscriber: a strict receiver of its packets.
 #[derive(Drop)]
 pub struct Endpoint {
     /// The strict receiver of the packets that the subscriber took.
@@ -29,7 +31,7 @@ pub struct Endpoint {
 }
 
 impl Endpoint {
-    /// An endpoint that has received nothing. `NoMemory`: out of memory.
+    /// Returns an endpoint that has received nothing. Returns `NoMemory` if memory runs out.
     pub fn new(alloc: Global) -> Result<Endpoint, NoMemory>
         ensures { IfOk result (λ endpoint. WasFed endpoint []) }
     {
@@ -46,14 +48,15 @@ impl Endpoint {
         self.complains = self.receiver.feed(packet).is_err();
     }
 
-    // Takes the oldest queued packet, if there is one, and feeds it. Returns whether there was one.
+    // Takes the oldest queued packet, if there is one, and feeds it to the receiver. Returns whether there was one.
     fn take_one(
         &mut self,
         subscriber: u32,
         room: &mut Room<KeepNone>,
         scratch: &mut Scratch,
     ) -> bool
-        ensures { (past : List Call) → StandsAfter room.old past → TakesOne result self.old self.new room.new subscriber past }
+        ensures takes { (past : List Call) → StandsAfter room.old past → TakesOne result self.old self.new room.new subscriber past }
+        ensures queued { (past : List Call) → IsFedAfter room.old self.old subscriber past → TakesQueued result room.new self.new subscriber past }
     {
         match room.take(SEAT, subscriber, scratch) {
             Reply::Packet => {
@@ -69,6 +72,7 @@ impl Endpoint {
         ensures room { (past : List Call) → StandsAfter room.old past → StandsAfter room.new (all_taken subscriber past) }
         ensures fed { (past : List Call) → StandsAfter room.old past → WasFed self.old (given_to subscriber past)
             → WasFed self.new (given_to subscriber (all_taken subscriber past)) }
+        ensures emptied { (past : List Call) → IsFedAfter room.old self.old subscriber past → IsFedAfter room.new self.new subscriber (after_takes subscriber past) }
     {
         'takes: for _count in 0..MOST_QUEUED + 1 {
             if !self.take_one(subscriber, room, scratch) {

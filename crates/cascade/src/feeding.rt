@@ -1,4 +1,4 @@
-// A feed: packets that a subscriber of one room takes are fed to a track of another room.
+// A feed: takes the packets queued for a subscriber of one room, and feeds them to a track of another room.
 ghost use Rattle.std.specs.Prelude.{◌≡◌, ◌⊎◌, IsTrue, List, Some};
 ghost use Rattle.sfu_base.specs.declared.call.Refusal.TheVariants.{NoMemory};
 ghost use Rattle.room_core.specs.History.{Entry};
@@ -12,9 +12,9 @@ use sfu_base::{Refusal, Reply, Scratch};
 /// The outcome of a feed.
 #[derive(Clone, Copy, Debug, PartialEq, Eq)]
 pub struct Fed {
-    /// How many packets the second room accepted, at most 512.
+    /// The number of packets that the second room accepted, at most 512.
     pub moved: u32,
-    /// The refusal that ended the feed. `Empty`: all queued packets were moved.
+    /// The refusal that ended the feed. It is `Empty` if all queued packets were moved.
     pub end: Refusal,
 }
 
@@ -24,7 +24,7 @@ const SEAT: u32 = 0;
 // The capacity of a subscriber's queue, in packets.
 const MOST_QUEUED: u32 = 512;
 
-// The reason if a reply is a refusal, else `None`.
+// Returns the reason if a reply is a refusal, else `None`.
 fn refused_by(reply: Reply) -> Option<Refusal>
     ensures { result ≡ refused_by reply }
 {
@@ -55,10 +55,10 @@ fn move_one<A: Recorder, B: Recorder>(
     refused_by(second.packet(SEAT, track, moment, &scratch.packet))
 }
 
-/// Takes the packets queued for a subscriber of the first room, and feeds each to a track of the second room at `moment` (milliseconds). All calls
-/// are made as seat 0, until one is refused; `end` is that refusal. `Empty`: all packets were moved. `NoSubscriber`: the first room has no such
-/// subscriber. If the second room refuses a packet, `end` is a refusal of [`Room::packet`]; that packet is lost, and the packets after it stay queued
-/// in the first room. `end` can be `NoMemory` only if a recorder may refuse.
+/// Takes the packets queued for a subscriber of the first room, and feeds each to a track of the second room at `moment` (milliseconds).
+/// All calls are made as seat 0. The first refused call ends the feed, and `end` is its refusal: `Empty` if all packets were moved,
+/// `NoSubscriber` if the first room has no such subscriber. If the second room refuses a packet, `end` is a refusal of [`Room::packet`];
+/// that packet is lost, and the packets after it stay queued in the first room. `end` can be `NoMemory` only if a recorder may refuse.
 pub fn feed<A: Recorder, B: Recorder>(
     first: &mut Room<A>,
     subscriber: u32,
@@ -82,7 +82,7 @@ pub fn feed<A: Recorder, B: Recorder>(
             None => moved += 1,
         }
     }
-    // Not reached, since at most 512 packets wait.
+    // Not reached, since at most 512 packets are queued.
     Fed {
         moved,
         end: Refusal::Empty,

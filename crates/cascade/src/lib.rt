@@ -1,9 +1,9 @@
-//! A cascade of two rooms: packets that a subscriber of one room takes are fed to a track of another room, which forwards them to that track's
-//! subscribers. Own rules.
+//! A cascade of two rooms: packets that a subscriber of one room takes are fed to a
+//! track of another room. That room forwards them to the track's subscribers. Own rules.
 //!
-//! [`feed`] moves the packets of one subscriber to one track. The laws say what happens to the frames forwarded to the first room's subscriber.
-//! [`play`] sends a generated stream through two rooms, with a strict receiver for each subscriber of the second room. The command [`cascade`] writes
-//! what the receivers found.
+//! [`feed`] moves the packets of one subscriber to one track. The laws say what happens to the frames forwarded to the first
+//! room's subscriber. [`play`] sends a generated stream through two rooms, with a strict receiver for each subscriber of the
+//! second room. The command [`cascade`] writes what the receivers found. The command [`trial`] does the same with one room.
 #![tactic(auto)]
 
 mod command;
@@ -11,6 +11,7 @@ mod endpoint;
 mod feeding;
 mod laws;
 mod playing;
+mod stream_trial;
 mod summing;
 #[cfg(test)]
 mod tests;
@@ -24,4 +25,5 @@ pub use laws::{
     plain_tracks_go_on, runs_go_on, takes_are_enough,
 };
 pub use playing::play;
+pub use stream_trial::trial;
 pub use two_rooms::TwoRooms;

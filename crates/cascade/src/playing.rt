@@ -9,9 +9,9 @@ use sfu_base::{NoMemory, PacketBuf};
 use std::alloc::Global;
 use stream_maker::{Event, Maker};
 
-/// Sends a generated stream through two rooms to the three subscribers of the second room. The stream has `frames` frames; about `loss` percent of
-/// its packets are lost; `start` seeds the random generator. Returns five lines: two about the stream, and one for each subscriber with what a strict
-/// receiver finds in its packets. `NoMemory`: out of memory.
+/// Sends a generated stream through two rooms to the three subscribers of the second room. The stream has `frames` frames;
+/// about `loss` percent of its packets are lost; `start` seeds the random generator. Returns five lines: two about the stream,
+/// and one for each subscriber with what a strict receiver finds in its packets. Returns `NoMemory` if memory runs out.
 pub fn play(alloc: Global, frames: u32, start: u64, loss: u8) -> Result<String, NoMemory>
     requires some_frames { 1 ≤ frames }
     requires few_frames { frames ≤ 1000000 }
@@ -28,6 +28,6 @@ pub fn play(alloc: Global, frames: u32, start: u64, loss: u8) -> Result<String, 
             Event::End => break 'events,
         }
     }
-    let text = summary(alloc, maker.counts(), &rooms)?;
+    let text = summary(alloc, maker.counts(), &rooms.one, &rooms.two, &rooms.three)?;
     Ok(text)
 }

@@ -1,13 +1,12 @@
-// The summary of a cascade.
-ghost use Rattle.std.specs.Prelude.{◌≡◌, List, ℕ, IfOk};
+// The summary of a trial or a cascade.
+ghost use Rattle.std.specs.Prelude.{◌≡◌, ◌++◌, List, ℕ, IfOk};
 ghost use Rattle.std.specs.String.{string_bytes};
 ghost use Rattle.sfu_base.specs.Bytes.{bit};
-ghost use Rattle.cascade.specs.Calls.{Both};
-ghost use Rattle.cascade.specs.Standing.{AreAfter, WasFed};
-ghost use Rattle.cascade.specs.Summary.{subscriber_text, summary_of};
+ghost use Rattle.stream_maker.specs.Summary.{made_text};
+ghost use Rattle.cascade.specs.Standing.{WasFed};
+ghost use Rattle.cascade.specs.Summary.{subscriber_text};
 
 use crate::endpoint::Endpoint;
-use crate::two_rooms::TwoRooms;
 use sfu_base::NoMemory;
 use std::alloc::{AllocError, Global};
 use stream_maker::{Counts, counts_text, made_text};
@@ -18,6 +17,7 @@ fn bit(set: bool) -> u8
     u8::from(set)
 }
 
+// Returns a subscriber's line: what its receiver counted.
 fn subscriber_text(alloc: Global, number: u32, endpoint: &Endpoint) -> Result<String, AllocError>
     ensures { IfOk result (λ text. (taken : List (List ℕ)) → WasFed endpoint.now taken → string_bytes text ≡ subscriber_text number taken) }
 {
@@ -28,21 +28,35 @@ fn subscriber_text(alloc: Global, number: u32, endpoint: &Endpoint) -> Result<St
     Ok(text)
 }
 
-fn whole_text(alloc: Global, counts: Counts, rooms: &TwoRooms) -> Result<String, AllocError>
-    ensures { IfOk result (λ text. (both : Both) → AreAfter rooms.now both → string_bytes text ≡ summary_of counts both) }
+fn whole_text(
+    alloc: Global,
+    counts: Counts,
+    one: &Endpoint,
+    two: &Endpoint,
+    three: &Endpoint,
+) -> Result<String, AllocError>
+    ensures { IfOk result (λ text. (first second third : List (List ℕ)) → WasFed one.now first → WasFed two.now second → WasFed three.now third
+        → string_bytes text ≡ made_text counts ++ (subscriber_text 1 first ++ (subscriber_text 2 second ++ subscriber_text 3 third))) }
 {
     let mut text = made_text(alloc, counts)?;
-    text.push_str(subscriber_text(alloc, 1, &rooms.one)?.as_str())?;
-    text.push_str(subscriber_text(alloc, 2, &rooms.two)?.as_str())?;
-    text.push_str(subscriber_text(alloc, 3, &rooms.three)?.as_str())?;
+    text.push_str(subscriber_text(alloc, 1, one)?.as_str())?;
+    text.push_str(subscriber_text(alloc, 2, two)?.as_str())?;
+    text.push_str(subscriber_text(alloc, 3, three)?.as_str())?;
     Ok(text)
 }
 
-/// The five lines: two about the stream, and one with the counts of each subscriber's receiver. `NoMemory`: out of memory.
-pub fn summary(alloc: Global, counts: Counts, rooms: &TwoRooms) -> Result<String, NoMemory>
-    ensures { IfOk result (λ text. (both : Both) → AreAfter rooms.now both → string_bytes text ≡ summary_of counts both) }
+/// Returns five lines: two about the stream, and one with the counts of each subscriber's receiver. Returns `NoMemory` if memory runs out.
+pub fn summary(
+    alloc: Global,
+    counts: Counts,
+    one: &Endpoint,
+    two: &Endpoint,
+    three: &Endpoint,
+) -> Result<String, NoMemory>
+    ensures { IfOk result (λ text. (first second third : List (List ℕ)) → WasFed one.now first → WasFed two.now second → WasFed three.now third
+        → string_bytes text ≡ made_text counts ++ (subscriber_text 1 first ++ (subscriber_text 2 second ++ subscriber_text 3 third))) }
 {
-    match whole_text(alloc, counts, rooms) {
+    match whole_text(alloc, counts, one, two, three) {
         Ok(text) => Ok(text),
         Err(_) => Err(NoMemory),
     }

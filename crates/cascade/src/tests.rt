@@ -15,7 +15,7 @@ const ONE_UNIT: &str = "made 2 frames 5 packets\nlost 0 repeated 0 swapped 0\n\
     subscriber 1 frames 2 packets 5 complaints 0\nsubscriber 2 frames 1 packets 3 complaints 0\n\
     subscriber 3 frames 2 packets 5 complaints 0\n";
 
-// Frames, seed, loss in percent, and how the text begins (the whole text if nothing is lost).
+// Each row has the frames, the seed, the loss in percent, and the beginning of the text, which is the whole text if nothing is lost.
 const ROWS: [(u32, u64, u8, &str); 3] = [
     (1000, 7, 0, THOUSAND),
     (2, 7, 0, ONE_UNIT),

@@ -1,4 +1,4 @@
-// Two rooms, the second fed from the first, and the receivers of the second room's subscribers.
+// Two rooms, of which the first feeds the second, and the receivers of the second room's subscribers.
 ghost use Rattle.std.specs.Prelude.{◌≡◌, IfOk, OnOk, false};
 ghost use Rattle.sfu_base.specs.Answer.{is_starved};
 ghost use Rattle.cascade.specs.Calls.{Both, after_packet, after_tick, all_fed, opened, ticked_first, ticked_second, viewed, wish_for};
@@ -15,14 +15,14 @@ const PUBLISHER: u32 = 0x1111_1111;
 // The tracks' hold in milliseconds: how long packets wait for a gap to be filled.
 const HOLD: u32 = 50;
 
-/// Two rooms, the second fed from the first, and a strict receiver for each of the second room's three subscribers.
+/// Two rooms, of which the first feeds the second, and a strict receiver for each of the second room's three subscribers.
 #[derive(Drop)]
 pub struct TwoRooms {
     /// The publisher's room. Its subscribers 1 and 2 feed the second room.
     pub first: Room<KeepNone>,
     /// The room that is fed: its track 1 is layered, its track 2 plain.
     pub second: Room<KeepNone>,
-    /// The output buffers of the calls: a take writes its packet to them.
+    /// The buffers for the output of the calls. A take writes its packet into them.
     pub scratch: Scratch,
     /// Subscriber 1 of the second room: track 1, with a wish for all layers.
     pub one: Endpoint,
@@ -32,8 +32,8 @@ pub struct TwoRooms {
     pub three: Endpoint,
 }
 
-// `NoMemory` if the call ran out of memory.
-fn found(reply: Reply) -> Result<(), NoMemory>
+/// Returns `NoMemory` if the call ran out of memory.
+pub fn found(reply: Reply) -> Result<(), NoMemory>
     ensures { OnOk result (is_starved reply ≡ false) }
 {
     match reply {
@@ -42,13 +42,14 @@ fn found(reply: Reply) -> Result<(), NoMemory>
     }
 }
 
-fn wish(spatial: u8, temporal: u8) -> Wish
+/// A wish for these layers and the lower ones.
+pub fn wish(spatial: u8, temporal: u8) -> Wish
     ensures { result ≡ wish_for spatial temporal }
 {
     Wish { spatial, temporal }
 }
 
-// The first room, in which the track is published and its two subscribers have joined.
+// Returns the first room, in which the track is published and its two subscribers have joined.
 fn open_first(alloc: Global) -> Result<Room<KeepNone>, NoMemory>
     ensures { IfOk result (λ room. StandsAfter room opened.first) }
 {
@@ -60,7 +61,7 @@ fn open_first(alloc: Global) -> Result<Room<KeepNone>, NoMemory>
     Ok(room)
 }
 
-// The second room, in which the tracks are published and their three subscribers have joined.
+// Returns the second room, in which the tracks are published and their three subscribers have joined.
 fn open_second(alloc: Global) -> Result<Room<KeepNone>, NoMemory>
     ensures { IfOk result (λ room. StandsAfter room opened.second) }
 {
@@ -75,8 +76,8 @@ fn open_second(alloc: Global) -> Result<Room<KeepNone>, NoMemory>
 }
 
 impl TwoRooms {
-    /// Both rooms with their tracks and subscribers, before the first packet of the stream. `NoMemory`: out of memory for the rooms or for a
-    /// receiver.
+    /// Returns both rooms with their tracks and subscribers, before the first packet of
+    /// the stream. Returns `NoMemory` if memory runs out for the rooms or for a receiver.
     pub fn new(alloc: Global) -> Result<TwoRooms, NoMemory>
         ensures { IfOk result (λ rooms. AreAfter rooms opened) }
     {
@@ -134,7 +135,7 @@ impl TwoRooms {
         self.second.tick(SEAT, 2, moment);
     }
 
-    // Each subscriber of the second room takes all packets queued for it.
+    // Makes each subscriber of the second room take all packets queued for it.
     fn view(&mut self)
         ensures { (both : Both) → AreAfter self.old both → AreAfter self.new (viewed both) }
     {
@@ -143,8 +144,8 @@ impl TwoRooms {
         self.three.take_all(3, &mut self.second, &mut self.scratch);
     }
 
-    /// Ticks the first room at this moment (milliseconds). Then feeds its subscribers 1 and 2 to the second room's tracks 1 and 2, and ticks both of
-    /// these tracks. Then each subscriber of the second room takes all its queued packets.
+    /// Ticks the first room at this moment (milliseconds). Then feeds the second room's tracks 1 and 2 from the first room's
+    /// subscribers 1 and 2, and ticks both tracks. Then each subscriber of the second room takes all its queued packets.
     pub fn tick(&mut self, moment: u64)
         ensures { (both : Both) → AreAfter self.old both → AreAfter self.new (after_tick moment both) }
     {

@@ -24,7 +24,7 @@ use Rattle.cascade_laws.specs.Laws.{IsHandedOn, PassesOn}
 use Rattle.cascade_laws.proofs.Shifted.{has_same, key_same, keys_same}
 use Rattle.cascade_laws.proofs.Alike.{IsReady, missing_there, opens_there, ready, ready_passes, ready_there, references_there, stays_there, was_kept}
 
--- ---- the rules at a standing, by what passed of the epoch and by the target
+-- ---- the rules at a standing, by the passed frames of the epoch and by the target
 
 abbrev chosen : List FrameMeaning → CurrentTarget → Wish → FrameMeaning → CurrentTarget
 chosen l t w f = candidate (λ d. has_below l f.number d) (list_any is_key l) w f t
@@ -35,7 +35,7 @@ let_pass l t w f queued packets = passes (λ d. has_below l f.number d) (list_an
 abbrev Ready : List FrameMeaning → CurrentTarget → Wish → FrameMeaning → ℕ → ℕ → Type 0
 Ready l t w f target opened = IsReady (λ d. has_below l f.number d) (list_any is_key l) w f t target opened
 
--- ---- before a frame that leaves the target open as an older frame opened it, it was open so, in the frame's epoch
+-- ---- if a frame leaves open a target that an older frame opened, the target was open before, in the frame's epoch
 
 pub record WasOpen (s : Standing) (f : FrameMeaning) (target opened : ℕ) : Type 0 where
   pub in_epoch : is_epoch s.epoch f.epoch ≡ true
@@ -62,7 +62,7 @@ passed_in s f e = ap (λ b. cond b s.epoch_passed []) e
 target_in : (s : Standing) (f : FrameMeaning) → is_epoch s.epoch f.epoch ≡ true → target_at s f ≡ s.target
 target_in s f e = ap (λ b. cond b s.target (Closed (NotOpened f.number))) e
 
--- ---- one frame that passed to the one
+-- ---- one frame that passed to the first subscriber
 
 module _ (by : Shift) (target opened reopened epoch : ℕ) (now : Wish) where
   ready_for_other : (l l' : List FrameMeaning) (f g : FrameMeaning) → AreRelayed by l l' → IsShifted by opened reopened → IsRelayed by f g → IsMaskedFor target f g
@@ -161,7 +161,7 @@ module _ (by : Shift) (target opened reopened epoch : ℕ) (now : Wish) where
 
 -- ---- the key frame
 
--- at a key frame of a track nothing of its epoch passed before
+-- at a key frame of a track no frame of its epoch has passed before
 pub key_begins : {S : Type 0} (wish : Wish) (past : List (Event S)) (f : FrameMeaning) → IsOneTrack (f ∷ meanings_of past) → f.key ≡ true
     → is_epoch (standing wish past).epoch f.epoch ≡ false
 key_begins {S} wish past f track key = go (is_epoch (standing wish past).epoch f.epoch) refl
@@ -186,7 +186,7 @@ key_begins {S} wish past f track key = go (is_epoch (standing wish past).epoch f
     go true e = absurd (none (frames_of past) refl (is_epoch-true (standing wish past).epoch f.epoch e))
     go false e = e
 
--- before it there is nothing: no frame passed, and no target is open
+-- before it there is nothing: no frame has passed, and no target is open
 begins : (s : Standing) (f : FrameMeaning) → is_epoch s.epoch f.epoch ≡ false → (passed_at s f ≡ []) × (target_at s f ≡ Closed (NotOpened f.number))
 begins s f e = (ap (λ b. cond b s.epoch_passed []) e, ap (λ b. cond b s.target (Closed (NotOpened f.number))) e)
 

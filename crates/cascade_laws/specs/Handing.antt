@@ -1,5 +1,5 @@
--- The packets that go out to a subscriber since a frame, and the frames that they make on a second track. Own statements. S is the type of
--- template dependency structures.
+-- The packets forwarded to a subscriber since a frame, and the frames that they make
+-- on a second track. Own statements. S is the type of template dependency structures.
 use Rattle.std.specs.Prelude.{◌≡◌, ◌+◌, ◌%◌, ◌<◌, ℕ, List, [], ◌∷◌, ◌++◌, true, false, if◌then◌else◌, length, map}
 use Rattle.std.specs.declared.option.Option.TheVariants.{Some}
 use Rattle.sfu_base.specs.declared.frame.FrameMeaning.{FrameMeaning}
@@ -16,7 +16,7 @@ use Rattle.cascade_laws.specs.Told.{IsSentAs}
 
 -- ---- on the first track
 
--- the packets that go out for the newest events, before they are numbered, the oldest first
+-- the packets forwarded for the newest events, before they are numbered, the oldest first
 abbrev pub sent_since : {S : Type 0} → Sender S → Wish → (since past : List (Event S)) → List Packet
 sent_since send wish [] past = []
 sent_since send wish (WholeFrame frame ∷ since) past =
@@ -28,18 +28,18 @@ sent_since send wish (PlainPacket packet ∷ since) past =
 sent_since send wish (WishChange changed ∷ since) past = sent_since send wish since past
 sent_since send wish (Take ∷ since) past = sent_since send wish since past
 
--- the newest of a frame and the frames after it, which have the newest first
+-- the newest of a frame and the frames after it; `later` has the newest first
 abbrev pub newest_of : FrameMeaning → List FrameMeaning → FrameMeaning
 newest_of x [] = x
 newest_of x (f ∷ later) = f
 
--- each frame's number is less than 32,768 above that of the frame before
+-- each frame's number is less than 32,768 above that of the frame before it
 abbrev pub AreNear : FrameMeaning → List FrameMeaning → Type 0
 AreNear x [] = Unit {0}
 AreNear x (f ∷ later) = (f.number < (newest_of x later).number + 32768) × AreNear x later
 
--- The frame is no key frame. Its packets are sent unchanged but for these masks. Each of these masks has the target, and only targets of the
--- frame's own mask.
+-- The frame isn't a key frame. Its packets are sent unchanged except for these masks.
+-- Each of these masks has the target, and has only targets of the frame's own mask.
 pub record IsSentOn {S : Type 0} (format : Format S) (Masks : ℕ → Type 0) (target : ℕ) (s : S) (frame : Frame S) (packets : List Packet) : Type 0 where
   pub sent : IsSentAs format Masks s frame.meaning packets
   pub masked : (g : FrameMeaning) → Masks g.mask → IsMaskedFor target frame.meaning g
@@ -53,7 +53,7 @@ AreSentOn format Masks target s send wish since past =
 
 -- ---- on the second track
 
--- After these items the newest frame is the one for f, in this epoch, with this structure in force and one of these masks.
+-- After these items the newest frame is the one for f, in this epoch, with this structure in force and with one of these masks.
 pub record IsUpTo {S : Type 0} (format : Format S) (Masks : ℕ → Type 0) (s : S) (by : Shift) (epoch : ℕ) (f : FrameMeaning) (items : List Item) : Type 0 where
   pub structure : (state_after format items).force.structure ≡ Some s
   pub masked : Masks (state_after format items).force.mask
@@ -61,7 +61,7 @@ pub record IsUpTo {S : Type 0} (format : Format S) (Masks : ℕ → Type 0) (s :
   pub newest : IsShifted by f.number (state_after format items).force.newest
   pub congruent : (state_after format items).force.newest % 65536 ≡ f.number % 65536
 
--- a frame for x came
+-- a frame for x arrived
 pub record HasComeFor {S : Type 0} (format : Format S) (Masks : ℕ → Type 0) (s : S) (by : Shift) (epoch : ℕ)
     (x : FrameMeaning) (y : Frame S) (items after : List Item) : Type 0 where
   pub frames : frames_after format after ≡ y ∷ frames_after format items
@@ -70,7 +70,7 @@ pub record HasComeFor {S : Type 0} (format : Format S) (Masks : ℕ → Type 0) 
   pub epoch_is : y.meaning.epoch ≡ epoch
   pub up_to : IsUpTo format Masks s by epoch x after
 
--- and a frame for each frame that passed since
+-- and a frame arrived for each frame that passed since
 pub record HaveComeFor {S : Type 0} (format : Format S) (Masks : ℕ → Type 0) (s : S) (by : Shift) (target epoch : ℕ)
     (x : FrameMeaning) (passed ys : List (Frame S)) (items after : List Item) : Type 0 where
   pub frames : frames_after format after ≡ ys ++ frames_after format items

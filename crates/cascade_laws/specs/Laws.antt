@@ -1,5 +1,5 @@
--- What passed to a subscriber of the first track also passes to one of the second. Own statements. S is the type of template dependency
--- structures.
+-- The frames that passed to a subscriber of the first track also pass to one of
+-- the second. Own statements. S is the type of template dependency structures.
 use Rattle.std.specs.Prelude.{◌≡◌, ℕ, List, ◌∷◌, ◌++◌, true, length}
 use Rattle.sfu_base.specs.declared.frame.Wish.{Wish}
 use Rattle.forwarding_model.specs.declared.target.CurrentTarget.TheVariants.{Open}
@@ -9,9 +9,9 @@ use Rattle.forwarding_model.specs.forwarding.Standing.{passes_at, standing}
 use Rattle.forwarding_model.specs.frames.TrackFrames.{IsOneTrack}
 use Rattle.cascade_laws.specs.Relayed.{AllPass, AreHandedOn, IsMaskedFor, IsNotFull, IsRelayed, KeepsWish, NoneIsFull, Shift, StandAlike, passed_since}
 
--- Two timelines since a key frame. One is that of s on the first track, where the key frame x passed and opened a target that is still open.
--- The other is that of u on the second track, which got a key frame y for x, and then a frame for each frame that passed to s since, in
--- order, and no others. Both subscribers have the same, unchanged wish, and no frame found u's queue too full.
+-- Two timelines since a key frame. One is that of s on the first track, where the key frame x passed and opened a target that is
+-- still open. The other is that of u on the second track. That track got a key frame y for x, and then a frame for each frame that
+-- passed to s since, in order, and no others. Both subscribers have the same, unchanged wish, and no frame found u's queue too full.
 pub record IsHandedOn {S : Type 0} (by : Shift) (target : ℕ) (now wish : Wish) (since past : List (Event S)) (x : Frame S) (second_wish : Wish)
     (second_since second_past : List (Event S)) (y : Frame S) : Type 0 where
   pub track : IsOneTrack (meanings_of (since ++ WholeFrame x ∷ past))
@@ -29,7 +29,7 @@ pub record IsHandedOn {S : Type 0} (by : Shift) (target : ℕ) (now wish : Wish)
   pub first_has_room : IsNotFull (standing second_wish second_past) y.meaning (length y.packets)
   pub others_have_room : NoneIsFull second_wish second_since (WholeFrame y ∷ second_past)
 
--- Then each of these frames passes to u, and both subscribers have corresponding states.
+-- Each of these frames passes to u, and the states of both subscribers correspond.
 pub record PassesOn {S : Type 0} (by : Shift) (target : ℕ) (now wish : Wish) (since past : List (Event S)) (x : Frame S) (second_wish : Wish)
     (second_since second_past : List (Event S)) (y : Frame S) : Type 0 where
   pub first : passes_at (standing second_wish second_past) y.meaning (length y.packets) ≡ true

@@ -1,4 +1,4 @@
--- The last verdicts lead to the same results as all of them do.
+-- The last verdicts lead to the same results as all verdicts.
 use Rattle.std.proofs.Common.{◌≡◌, ◌≤◌, ◌<◌, ℕ, ◌+◌, Bool, true, false, cond, List, [], ◌∷◌, refl, sym, ap, ◌∙◌, arith, Option, Some, None, Result, Ok, Err, eqb, leb}
 use Rattle.std.specs.Prelude.{nat_lt}
 use Rattle.std.specs.List.{AllByRecursion}
@@ -86,7 +86,7 @@ newest_same [] = refl
 newest_same (x ∷ past) =
     ap (λ (b : Bool). newest_number (cond b (x ∷ near x.number past) [])) (lt-ltb x.number (x.number + 4096) (omega arith))
 
--- for each request, the last verdicts lead to the same result as all of them
+-- for each number, the last verdicts lead to the same result as all verdicts
 pub judged_recent : (steps : List Step) (n : ℕ) → AreFalling steps → judged (recent steps) n ≡ judged steps n
 judged_recent steps n h =
     ap (λ (o : Option ℕ). judged_at o (recent steps) n) (newest_same steps) ∙ go (newest_number steps) refl

@@ -1,4 +1,4 @@
--- The test of a path as the code does it: over neighbours in a list. The model defines the same in words (`IsPath`).
+-- The test of a path as the code does it, on neighbours in a list. The model defines the same in words (`IsPath`).
 use Rattle.std.specs.Prelude.{ℕ, List, [], ◌∷◌, Bool, true, false, ◌&&◌, ◌==◌, nat_lt}
 use Rattle.std.specs.declared.option.Option.{Option}
 use Rattle.std.specs.declared.option.Option.TheVariants.{None, Some}

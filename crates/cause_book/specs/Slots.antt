@@ -14,7 +14,7 @@ if_numbered n (Some (Some step)) = if step.number == n then Some step else None
 abbrev pub step_at : ℕ → List (Option Step) → ℕ → Option Step
 step_at shift slots n = if_numbered n (slice_get slots ((n + shift) % 4096))
 
--- each place has the same step as before, if any
+-- each place has the same step as before, or none as before
 abbrev pub AreAlike : List (Option Step) → List (Option Step) → Type 0
 AreAlike slots new = (n place : ℕ) → if_numbered n (slice_get new place) ≡ if_numbered n (slice_get slots place)
 
@@ -22,7 +22,7 @@ abbrev pub and_step : Option Step → List Step → List Step
 and_step None steps = steps
 and_step (Some step) steps = step ∷ steps
 
--- the steps with this many numbers from the lowest on, the highest first
+-- the steps of the numbers in a range of this length from `lowest` on, the highest first
 abbrev pub steps_down : ℕ → List (Option Step) → ℕ → ℕ → List Step
 steps_down shift slots low zero = []
 steps_down shift slots low (suc count) = and_step (step_at shift slots (low + count)) (steps_down shift slots low count)
@@ -37,7 +37,7 @@ pub record IsNextAbove (shift : ℕ) (slots : List (Option Step)) (n above : ℕ
   pub there : is_some (step_at shift slots above) ≡ true
   pub none : NoneBetween shift slots (n + 1) above
 
--- the greatest number from `low` up to, but not including, n that has a step, if one has
+-- the greatest number from `low` to n - 1 that has a step, if there is one
 abbrev pub IsNextBelow : ℕ → List (Option Step) → ℕ → ℕ → Option ℕ → Type 0
 IsNextBelow shift slots low n None = NoneBetween shift slots low n
 IsNextBelow shift slots low n (Some below) = (low ≤ below) × (below < n) × (is_some (step_at shift slots below) ≡ true) × NoneBetween shift slots (below + 1) n

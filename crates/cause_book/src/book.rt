@@ -10,16 +10,16 @@ use sfu_base::{NoMemory, Refusal, Step, Verdict};
 use std::alloc::Global;
 use std::marker::Model;
 
-/// How many frame numbers the book covers, up to and including the newest (own rule).
+/// The book covers this number of frame numbers, up to and including the newest (own rule).
 const SPAN: u64 = 4096;
 
-/// The verdicts on the frames of the last 4,096 numbers: why each was or wasn't forwarded. Clauses see the book as the list of these
+/// The verdicts on the frames of the last 4,096 numbers: whether and why each was forwarded. Contracts see the book as the list of these
 /// verdicts with their numbers, the newest first.
 #[derive(Debug, Drop)]
 pub struct CauseBook {
     newest: Option<u64>,
-    // The verdict on a frame is at the index of its number plus `shift`, modulo 4,096, and replaces the entry before it. `shift` puts the
-    // first verdict at index 0, and entries are made up to the one that is written, so that a young book touches little memory.
+    // The verdict on a frame is at the index that is its number plus `shift`, modulo 4,096. A new verdict replaces the earlier entry at its index.
+    // `shift` puts the first verdict at index 0, and entries are only made up to the one that is written. So a new book touches little memory.
     steps: Vec<Entry>,
     shift: u64,
 }
@@ -38,7 +38,7 @@ impl Model for CauseBook {
 }
 
 impl CauseBook {
-    /// A book without verdicts. All memory is allocated here; `NoMemory`: out of memory.
+    /// A book without verdicts. Returns `NoMemory` if memory runs out. No later call allocates memory.
     pub fn new(alloc: Global) -> Result<CauseBook, NoMemory>
         ensures { IfOk result (λ book. book ≡ []) }
     {
@@ -52,8 +52,8 @@ impl CauseBook {
         })
     }
 
-    /// Writes the verdict on the frame with this number, and forgets the verdicts on numbers 4,096 or more below it. If the number isn't
-    /// above all that were written before, nothing changes.
+    /// Writes the verdict on the frame with this number, and forgets the verdicts on numbers 4,096 or more below it. If the number isn't above
+    /// all numbers written before, nothing changes.
     pub fn write(&mut self, number: u64, verdict: Verdict)
         ensures written { IsAboveAll number self.old → self.new ≡ recent (record { number = number; verdict = verdict } ∷ self.old) }
         ensures unchanged { is_ahead (newest_number self.old) number ≡ false → self.new ≡ self.old }
@@ -72,9 +72,9 @@ impl CauseBook {
         self.newest = Some(number);
     }
 
-    /// The cause of a number: the verdict on the frame with this number, or a hole where no frame has it. `Ahead`: the number is above the
-    /// newest, or there is no newest. `TooOld`: the number is 4,096 or more below the newest. A verdict is found in constant time. For a
-    /// hole, the search goes from the number to the nearest frame on either side.
+    /// Returns the cause of a number: the verdict on the frame with this number, or a hole if no frame has it. Returns `Ahead` if the number is
+    /// above the newest or no verdict was written, and `TooOld` if it is 4,096 or more below the newest. A verdict is found in constant time.
+    /// For a hole, the search runs from the number to the nearest frame on either side.
     pub fn verdict(&self, number: u64) -> Result<Verdict, Refusal>
         ensures judged { result ≡ judged self.now number }
         ensures stands { (steps : Steps) → IsAfter self.now steps → AreFalling steps → result ≡ judged steps number }
@@ -103,7 +103,7 @@ impl CauseBook {
     }
 }
 
-// The shift with which this number's entry is the first, or `shift` if there are entries.
+// The shift that puts the entry of this number at index 0 if there are no entries, otherwise `shift`.
 #[inline(always)]
 fn shift_for(steps: &[Entry], shift: u64, number: u64) -> u64
     ensures { steps.now ≢ [] → result ≡ shift }
@@ -123,7 +123,7 @@ fn place_of(shift: u64, number: u64) -> usize
     (number.wrapping_add(shift) % SPAN) as usize
 }
 
-// Appends entries without a step until this place has one.
+// Appends empty entries until there is an entry at this place.
 #[inline(always)]
 fn reach(steps: &mut Vec<Entry>, place: usize)
     requires place { place < 4096 }
@@ -139,7 +139,7 @@ fn reach(steps: &mut Vec<Entry>, place: usize)
     }
 }
 
-// Does what `reach` does. Out of line: each place is reached for the first time only once.
+// Does what `reach` does. Out of line: it runs only once for each place.
 #[inline(never)]
 fn append(steps: &mut Vec<Entry>, place: usize)
     requires place { place < 4096 }
@@ -155,7 +155,7 @@ fn append(steps: &mut Vec<Entry>, place: usize)
     }
 }
 
-// The step with this number, if it is still kept.
+// The step with this number, if the book still has it.
 fn step_in(steps: &[Entry], shift: u64, number: u64) -> Option<Step>
     ensures { result ≡ step_at shift steps.now number }
 {
@@ -165,7 +165,7 @@ fn step_in(steps: &[Entry], shift: u64, number: u64) -> Option<Step>
     }
 }
 
-// The least number above `number` that has a step. There is one, since `newest` has a step.
+// The least number above `number` that has a step. Such a number exists, since `newest` has a step.
 fn next_above(steps: &[Entry], shift: u64, number: u64, newest: u64) -> u64
     requires lower { number < newest }
     requires newest { is_some (step_at shift steps.now newest) ≡ true }
@@ -179,7 +179,7 @@ fn next_above(steps: &[Entry], shift: u64, number: u64, newest: u64) -> u64
     newest
 }
 
-// The greatest number that has a step, from `lowest` up to, but not including, `number`; `None` if none has.
+// The greatest number in `lowest..number` that has a step, or `None` if none has.
 fn next_below(steps: &[Entry], shift: u64, lowest: u64, number: u64) -> Option<u64>
     requires { lowest ≤ number }
     ensures { IsNextBelow shift steps.now lowest number result }

@@ -4,7 +4,7 @@ ghost use Rattle.std.specs.Prelude.{◌≡◌, None, Some};
 use sfu_base::{Step, Verdict};
 use std::marker::Model;
 
-/// A verdict in at most three 64-bit words, or none. `HoleAbove` is a hole with no frame below it.
+/// A verdict, or nothing, in at most three 64-bit words. `HoleAbove` is a hole without a frame below it.
 #[derive(Clone, Copy, Debug)]
 enum Kept {
     Nothing,
@@ -19,7 +19,7 @@ enum Kept {
     HoleAbove { above: u64 },
 }
 
-/// A frame number with the verdict on that frame, or nothing, in 32 bytes. Clauses see it as a step or `None`.
+/// A frame number with the verdict on that frame, or nothing, in 32 bytes. Contracts see it as a step or `None`.
 #[derive(Debug, Drop)]
 pub struct Entry {
     number: u64,

@@ -1,5 +1,5 @@
-//! Why the frames of the last 4,096 numbers were or weren't forwarded to a subscriber, and whether a list of causes is a path to a root.
-//! Only the constructor allocates memory.
+//! Records whether and why the frames of the last 4,096 numbers were forwarded to a subscriber. Also checks whether a list of causes is a path
+//! to a root cause. Only the constructor allocates memory.
 #![tactic(auto)]
 
 mod book;

@@ -1,14 +1,14 @@
-// Tests whether steps are a path of causes.
+// Checks whether steps are a path of causes.
 ghost use Rattle.std.specs.Prelude.{◌≡◌, ◌↔◌, IsTrue};
 ghost use Rattle.forwarding_model.specs.forwarding.Causes.{IsPath, followed};
 ghost use Rattle.cause_book.specs.Path.{is_path, is_root, leads_to};
 
 use sfu_base::{Step, Verdict};
 
-/// Whether the steps are a path from a withheld frame to its root cause (own rule). They are if there is at least one step, and
+/// Whether the steps are a path from a frame that wasn't forwarded to its root cause (own rule). The steps are such a path if there is at least one step, and
 /// - each step but the last is a missing reference (`Reference`) or a broken chain link (`Link`), and names the number of the next step;
 /// - each number is below the number before it;
-/// - the last step is a root: a full queue (`Full`), a hole (`Hole`), a frame that isn't of the target (`NotOfTarget`), an unopened target
+/// - the last step is a root: a full queue (`Full`), a hole (`Hole`), a frame outside the target (`NotOfTarget`), an unopened target
 ///   (`Unopened`), or a reference to before the epoch (`Behind`).
 pub fn check_path(steps: &[Step]) -> bool
     ensures { IsTrue result ↔ IsPath steps.now }
@@ -16,7 +16,7 @@ pub fn check_path(steps: &[Step]) -> bool
     leads_to_root(steps)
 }
 
-// Does what `check_path` does: tests each step together with the next one, and then the last step.
+// Does what `check_path` does: checks each step together with the next one, and then the last step.
 fn leads_to_root(steps: &[Step]) -> bool
     ensures { result ≡ is_path steps.now }
 {
@@ -31,7 +31,7 @@ fn leads_to_root(steps: &[Step]) -> bool
     is_end(&steps[steps.len() - 1].verdict)
 }
 
-// Whether a step names the number of the next step, and that number is below its own.
+// Whether a step names the number of the next step, and the next step's number is below the step's own.
 fn leads(step: &Step, next: &Step) -> bool
     ensures { result ≡ leads_to step.now next.now }
 {

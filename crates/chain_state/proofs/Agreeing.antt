@@ -16,7 +16,7 @@ pub has_numbers : (frames : List FrameMeaning) (n d : ℕ) → has_below (number
 has_numbers [] n d = refl
 has_numbers (f ∷ frames) n d = ap (λ b. ((f.number + d) == n) || b) (has_numbers frames n d)
 
--- for each distance up to 4,096 below a frame that is above all frames of the list
+-- this holds for each distance up to 4,096 below a frame that is above all frames of the list
 pub window_answers : (window : List ℕ) (frames : List FrameMeaning) (n d : ℕ) → window ≡ held_of (numbers_of frames) → IsAboveAll n (numbers_of frames)
     → d ≤ 4096 → has_below window n d ≡ has_frame_below frames n d
 window_answers window frames n d is above near =
@@ -45,7 +45,7 @@ no_chains : (has : ℕ → Bool) (f : FrameMeaning) (target opened : ℕ) → f.
 no_chains has f target opened none =
     ap (λ n. nat_lt 0 n && (nat_lt 0 (chain_link f target) && (nat_le (opened + chain_link f target) f.number && not (has (chain_link f target))))) none
 
--- by the mask of the frames just below
+-- the same, by the mask of the frames just below
 near_link : (frames : List FrameMeaning) (f : FrameMeaning) (target opened mask : ℕ) → AreBelow (held_of (numbers_of frames)) f.number mask
     → IsAboveAll f.number (numbers_of frames) → bit_at mask (chain_link f target) ≡ 1 → is_link_broken (has_frame_below frames f.number) f target opened ≡ false
 near_link frames f target opened mask below above set =
@@ -61,6 +61,6 @@ linked_is_intact frames f target opened mask below above linked = elim (cases_eq
       (eqb-true (bit_at mask (chain_link f target)) 1 (sym (ap (λ b. b || (bit_at mask (chain_link f target) == 1)) (ne_eqb f.chain_count 0 some)) ∙ linked))
 ]
 
--- a word has no bit past its highest
+-- a word has no bit above its highest one
 pub no_bit : (mask place : ℕ) → mask < 2 ^ 64 → 64 ≤ place → nat_lt place 64 ≡ (bit_at mask place == 1)
 no_bit mask place small past = le-ltb place 64 past ∙ sym (ap (λ b. b == 1) (bit_at_above mask 64 place small past))

@@ -9,8 +9,8 @@ use Rattle.ref_window.specs.Numbers.{AreBelow, IsAboveAll, held_of}
 use Rattle.chain_state.specs.declared.LinkState.{LinkState}
 use Rattle.chain_state.specs.declared.LinkState.TheVariants.{Intact, Broken}
 
--- the state of the chain that protects the target, which was opened at the frame `opened`; the
--- first argument tests for each distance whether the frame at that distance was forwarded
+-- the state of the chain that protects the target, which was opened at the frame `opened`;
+-- the first argument says for each distance whether the frame at that distance was forwarded
 abbrev pub link_of : (ℕ → Bool) → FrameMeaning → ℕ → ℕ → LinkState
 link_of has f target opened = if is_link_broken has f target opened then Broken (f.number - chain_link f target) else Intact
 
@@ -24,7 +24,8 @@ numbers_of frames = map number_of frames
 abbrev pub is_linked : FrameMeaning → ℕ → ℕ → Bool
 is_linked f target mask = f.chain_count == 0 || bit_at mask (chain_link f target) == 1
 
--- If f is above all forwarded frames and each bit of the mask is one of them, the chain is then intact, whichever frame opened the target.
+-- Suppose that the test holds, that f is above all forwarded frames, and that each bit of the
+-- mask stands for one of them. Then the chain is intact, whichever frame opened the target.
 abbrev pub LinkedIsIntact : Type 0
 LinkedIsIntact = (frames : List FrameMeaning) (f : FrameMeaning) (target opened mask : ℕ) → AreBelow (held_of (numbers_of frames)) f.number mask
     → IsAboveAll f.number (numbers_of frames) → is_linked f target mask ≡ true → is_link_broken (has_frame_below frames f.number) f target opened ≡ false

@@ -47,8 +47,8 @@ pub fn link_state(frame: &FrameMeaning, target: u8, opened: u64, passed: &RefWin
     }
 }
 
-/// Whether there are no chains, or the frame before this one in the target's chain is in a mask of forwarded frames: bit d, the lowest
-/// first, is the frame whose number is d below this one's, for d from 0 to 63.
+/// Returns true if there are no chains. Otherwise returns whether bit d of the mask `forwarded` is 1, where d is the frame's distance in the
+/// target's chain (frame_chain_fdiff). Bit d, from 0 (the lowest) to 63, stands for the forwarded frame whose number is d below this one's.
 #[inline(always)]
 pub fn is_linked(frame: &FrameMeaning, target: u8, forwarded: u64) -> bool
     requires valid { IsValid frame.now }
@@ -58,7 +58,8 @@ pub fn is_linked(frame: &FrameMeaning, target: u8, forwarded: u64) -> bool
     frame.chain_count == 0 || has_bit(forwarded, distance_in_chain(frame, target))
 }
 
-/// A law: where [`is_linked`] is true for a mask of forwarded frames, all below this one, the chain is intact, whichever frame opened the target.
+/// A law: suppose that all forwarded frames have lower numbers than this frame, and that [`is_linked`]
+/// returns true for a mask of some of them. Then the chain is intact, whichever frame opened the target.
 pub fn linked_chains_are_intact()
     ensures { LinkedIsIntact }
 {}

@@ -1,4 +1,4 @@
--- Reading items one after another, as a loop does: the items so far, followed by those that are still to be read, are all items.
+-- Items that are read one after another in a loop: the items so far, followed by those still to be read, are all items.
 use Rattle.std.proofs.Common.{◌≡◌, ℕ, zero, suc, length, take, set, map, ◌-◌, ◌+◌, ◌≤◌, ◌<◌, List, [], ◌∷◌, ◌++◌, Option, Some, None, Result, Ok, Err, refl, sym, ap, ◌∙◌, append_assoc, arith}
 use Rattle.std.proofs.lemmas.List.{append-nil, take_more_set, map_push}
 use Rattle.dd_bits.specs.Sequences.{◌>>=◌, repeat_at, until_at}
@@ -50,7 +50,7 @@ pub array_done : {A E S : Type 0} (item : S → Result (A × S) E) (xs : List A)
     → with_front (take i xs) (repeat_at item (count - i) input) ≡ total → total ≡ Ok (take count xs, input)
 array_done item xs count i input total le ge so_far = let e : count ≡ i = omega arith in repeat_done item (take i xs) count i input total le so_far ∙ rw e refl
 
--- the same if the array's items are seen by a view
+-- the same if the array's items are mapped by a view
 pub shown_more : {X A E S : Type 0} (view : X → A) (item : S → Result (A × S) E) (xs : List X) (count i : ℕ) (input : S) (x : X) (after : S) (total : Result (List A × S) E) → i < length xs → i < count → item input ≡ Ok (view x, after)
     → with_front (map view (take i xs)) (repeat_at item (count - i) input) ≡ total → with_front (map view (take (i + 1) (set xs i x))) (repeat_at item (count - (i + 1)) after) ≡ total
 shown_more view item xs count i input x after total within lt h so_far = rw (take_more_set xs i x within, map_push view (take i xs) x) (repeat_more item (map view (take i xs)) count i input (view x) after total lt h so_far)

@@ -1,4 +1,4 @@
--- What is encoded is read back, whatever follows it, and what was read had this encoding: from the items to the whole.
+-- Encoded items are read back, whatever follows them, and items that were read had this encoding: from single items to the whole.
 use Rattle.std.proofs.Common.{◌≡◌, ℕ, zero, suc, ◌≤◌, Bool, true, false, cond, List, [], ◌∷◌, ◌++◌, length, Option, Some, None, Result, Ok, Err, refl, sym, ap, subst, ◌∙◌, append_assoc, ◌⊎◌, inl, inr, arith}
 use Rattle.std.specs.List.{flat_map, AllByRecursion}
 use Rattle.dd_bits.specs.Sequences.{◌>>=◌, or_fault, repeat_at, until_at, going_on, until_spelled, EachAfter}
@@ -17,7 +17,7 @@ bind_then (Err d) f y e go = absurd cc
 pub bind_is : {A B E : Type 0} (r : Result A E) (f : A → Result B E) (x : A) (y : Result B E) → r ≡ Ok x → f x ≡ y → (r >>= f) ≡ y
 bind_is r f x y e h = rw e h
 
--- which way a choice went
+-- the case that was chosen
 pub chosen : {A : Type 0} (b : Bool) (x y z : A) → cond b x y ≡ z → ((b ≡ true) × (x ≡ z)) ⊎ ((b ≡ false) × (y ≡ z))
 chosen true x y z e = inl (refl, e)
 chosen false x y z e = inr (refl, e)
@@ -65,7 +65,7 @@ until_again R next full step mark each ends (suc room) before (x ∷ xs) rest fe
 
 -- ---- what was read had this encoding
 
--- P holds of x, and the input was the bits or bytes of x and then the rest
+-- P holds for x, and the input was the bits or bytes of x and then the rest
 abbrev pub Takes : {A T : Type 0} → (A → Type 0) → (A → List T) → List T → A × List T → Type 0
 Takes P spell input x = P x.0 × (input ≡ spell x.0 ++ x.1)
 

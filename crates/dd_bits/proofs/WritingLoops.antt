@@ -1,4 +1,4 @@
--- Writing items one after another, as a loop does: the written bits, and then the encoding of the remaining items, are the result.
+-- Items that are written one after another in a loop: the written bits, followed by the encoding of the remaining items, are the result.
 use Rattle.std.proofs.Common.{◌≡◌, ℕ, ◌+◌, ◌-◌, ◌<◌, ◌≤◌, Bool, List, ◌++◌, length, get_or, take, drop, Result, Ok, Err, sym, ap, ◌∙◌, append_assoc, arith}
 use Rattle.std.specs.List.{flat_map}
 use Rattle.std.proofs.lemmas.List.{length-append, length-take, at_drop_more, at_drop_all}
@@ -40,7 +40,7 @@ until_put item mark before xs i d old new total lt e here =
 pub until_end : {A : Type 0} (item : A → A → List Bool) (mark : List Bool) (before : A) (xs : List A) (i : ℕ) (old total : List Bool) → length xs ≤ i → old ++ until_spelled item mark before (drop i xs) ≡ total → old ++ mark ≡ total
 until_end item mark before xs i old total le e = ap (λ (t : List Bool). old ++ t) (sym (at_drop_all (until_spelled item mark before) xs i le)) ∙ e
 
--- this many bits from the start of others
+-- this number of bits from the start of others
 pub front_step : (missing n v : ℕ) (xs ys old mid total : List Bool) → n ≤ missing → missing ≤ length xs → v ≡ value (take n xs) → ys ≡ drop n xs → mid ≡ old ++ bits_of n v → old ++ take missing xs ≡ total → mid ++ take (missing - n) ys ≡ total
 front_step missing n v xs ys old mid total few enough number rest here e =
     let all : n + (missing - n) ≡ missing = omega arith in

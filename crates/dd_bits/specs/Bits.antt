@@ -1,6 +1,6 @@
--- Bytes and numbers as lists of bits, the highest bit first.
--- RTP Payload Format For AV1 v1.0, Appendix A: its fields are strings of bits that are read from the highest bit
--- of the first byte on. The code keeps a slice, and how many bits of the slice's first byte were read already.
+-- Bytes and numbers as lists of bits, the highest bit first. The fields of RTP Payload Format For AV1 v1.0, Appendix A, are strings of bits.
+-- They are read from the highest bit of the first byte on. The code keeps a slice, and the number of bits of its first byte that were read
+-- already.
 use Rattle.std.specs.Prelude.{ℕ, zero, suc, ◌+◌, ◌*◌, ◌/◌, ◌%◌, ◌^◌, ◌==◌, Bool, true, false, List, [], ◌∷◌, ◌++◌, length}
 
 abbrev pub bit : Bool → ℕ

@@ -4,7 +4,7 @@
 use Rattle.std.specs.Prelude.{ℕ, zero, suc, ◌+◌, ◌-◌, ◌*◌, ◌^◌, Bool, List, length, take, drop, Option, Some, None, nat_lt, if◌then◌else◌}
 use Rattle.dd_bits.specs.Bits.{value, bits_of}
 
--- f(n): the number in the first n bits, and the bits after them; none if there are fewer than n bits
+-- f(n): the number in the first n bits, and the remaining bits; none if there are fewer than n bits
 unfoldable pub fixed : ℕ → List Bool → Option (ℕ × List Bool)
 fixed n bits = if nat_lt (length bits) n then None else Some (value (take n bits), drop n bits)
 
@@ -17,7 +17,7 @@ digits_below (suc k) n = if nat_lt n (2 ^ k) then digits_below k n else suc k
 abbrev pub digits : ℕ → ℕ
 digits n = digits_below 32 n
 
--- how many of the numbers below n are encoded by ns(n) in one bit fewer than n has binary digits
+-- how many of the numbers below n have the short form of ns(n), which has one bit fewer than n has binary digits
 abbrev pub short_forms : ℕ → ℕ
 short_forms n = 2 ^ digits n - n
 
@@ -26,12 +26,12 @@ abbrev pub with_last : ℕ → ℕ → Option (ℕ × List Bool) → Option (ℕ
 with_last n front None = None
 with_last n front (Some last) = Some (2 * front - short_forms n + last.0, last.1)
 
--- the number whose encoding begins with these digits, one fewer than n has: they are a short form, or one more bit follows
+-- the number whose encoding begins with these digits, which are one fewer than n has; they are a short form, or one more bit follows them
 abbrev pub from_front : ℕ → Option (ℕ × List Bool) → Option (ℕ × List Bool)
 from_front n None = None
 from_front n (Some front) = if nat_lt front.0 (short_forms n) then Some front else with_last n front.0 (fixed 1 front.1)
 
--- ns(n): a number below n, and the bits after it; none if there are too few bits
+-- ns(n): a number below n, and the remaining bits; none if there are too few bits
 unfoldable pub non_symmetric : ℕ → List Bool → Option (ℕ × List Bool)
 non_symmetric n bits = from_front n (fixed (digits n - 1) bits)
 

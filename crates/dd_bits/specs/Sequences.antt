@@ -1,6 +1,6 @@
--- Grammars that are read from left to right: one part after another, until the first fault. S is the input, a list
--- of bits or of bytes. Reading a part returns its value and the remaining input, or a fault E. The code keeps a
--- place in its input and an array or a list that it fills; here each part reads what the part before it left.
+-- Grammars that are read from left to right, one part after another, until the first fault. S is the input, a list of bits or of bytes. Reading
+-- a part returns its value and the remaining input, or a fault E. Here each part reads the input that the part before it left. The code keeps a
+-- place in its input, and fills an array or a list.
 use Rattle.std.specs.Prelude.{◌≡◌, ℕ, zero, suc, Bool, List, [], ◌∷◌, ◌++◌, Option, Some, None, Result, Ok, Err}
 use Rattle.dd_bits.specs.declared.reader.BitReader.{BitReader}
 use Rattle.dd_bits.specs.Numbers.{fixed, non_symmetric}
@@ -39,7 +39,7 @@ abbrev pub going_on : {A E S : Type 0} → (A → S → Result (List A × S) E) 
 going_on more (None, input) = Ok ([], input)
 going_on more (Some x, input) = more x input >>= λ others. Ok (x ∷ others.0, others.1)
 
--- items up to a mark, each read after the one before it; one above the limit is the fault `full`
+-- items up to a mark, each read after the one before it; if there are more items than the limit, the fault is `full`
 unfoldable pub until_at : {A E S : Type 0} → (A → S → Result (Option A × S) E) → E → ℕ → A → S → Result (List A × S) E
 until_at next full zero before input = next before input >>= going_on (λ x rest. Err full)
 until_at next full (suc room) before input = next before input >>= going_on (until_at next full room)
@@ -56,7 +56,7 @@ EachAfter R before (x ∷ xs) = R before x × EachAfter R x xs
 
 -- ---- the result of a function that reads bits
 
--- The function's result, seen by view, and the bits that it left are those of the grammar, or its error is the grammar's fault.
+-- The function's result, mapped by `view`, and the bits that it leaves are those of the grammar; or its error is the fault of the grammar.
 abbrev pub Gives : {X Y E : Type 0} → (X → Y) → Result X E → BitReader → Result (Y × List Bool) E → Type 0
 Gives view (Ok x) new given = given ≡ Ok (view x, bits_left new)
 Gives view (Err e) new given = given ≡ Err e

@@ -1,4 +1,4 @@
--- The bits that were written.
+-- The bits that a writer has written.
 use Rattle.std.specs.Prelude.{◌≡◌, ℕ, ◌+◌, ◌<◌, ◌*◌, Bool, false, List, ◌++◌, length, take, replicate, Result, Ok, Err}
 use Rattle.dd_bits.specs.Bits.{bits_of, bits_of_bytes}
 use Rattle.dd_bits.specs.declared.writer.BitWriter.{BitWriter}
@@ -12,14 +12,14 @@ room = 8 * 2040
 unfoldable pub written : BitWriter → List Bool
 written w = bits_of_bytes (take w.len w.bytes) ++ bits_of w.used w.pending
 
--- bytes that contain these bits, and then zero bits up to the end of the last byte
+-- the bytes contain these bits, followed by zero bits up to the end of the last byte
 pub record IsPadded (bits : List Bool) (bytes : List ℕ) : Type 0 where
   pub zeros : ℕ
   pub few : zeros < 8
   pub holds : bits_of_bytes bytes ≡ bits ++ replicate zeros false
 
--- The result of a write: these bits are appended, or they would pass the capacity. If several fields are
--- written one after another, some of them may be written in that case, unless a clause says otherwise.
+-- The result of a write: these bits are appended, or they would exceed the capacity. In the second case some of several fields may have been
+-- appended, unless a clause says otherwise.
 abbrev pub Puts : Result (Unit {0}) NoRoom → BitWriter → BitWriter → List Bool → Type 0
 Puts (Ok x) old new bits = written new ≡ written old ++ bits
 Puts (Err e) old new bits = room < length (written old) + length bits

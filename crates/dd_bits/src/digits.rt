@@ -1,4 +1,4 @@
-//! Binary digits of numbers: counts them, reads some of them, and appends more.
+//! Counts the binary digits of a number, reads some of them, and appends more.
 
 ghost use Rattle.std.specs.Prelude.{◌≡◌, ◌≤◌, ◌<◌, ◌+◌, ◌-◌, ◌*◌, ◌/◌, ◌%◌, ◌^◌};
 ghost use Rattle.dd_bits.specs.Numbers.{digits, short_forms};
@@ -13,7 +13,7 @@ pub fn digit_count(n: u32) -> u8
     (32 - n.leading_zeros()) as u8
 }
 
-/// ns(n) encodes some of the numbers below n in one bit fewer than n has binary digits. Returns how many numbers these are.
+/// The encoding ns(n) has a short form, which has one bit fewer than n has binary digits. Returns how many of the numbers below n have the short form.
 pub fn short_form_count(n: u32) -> u32
     requires { 1 ≤ n }
     ensures value { result ≡ short_forms n }
@@ -25,7 +25,7 @@ pub fn short_form_count(n: u32) -> u32
     (all - n as u64) as u32
 }
 
-/// Returns `count` digits of a number: those directly above its lowest `behind` digits.
+/// Returns the `count` digits of a number that are directly above its lowest `behind` digits.
 pub fn digits_at(number: u32, behind: u8, count: u8) -> u32
     requires { count ≤ 8 }
     ensures value { result ≡ number / 2 ^ behind % 2 ^ count }
@@ -38,7 +38,7 @@ pub fn digits_at(number: u32, behind: u8, count: u8) -> u32
     }
 }
 
-/// Returns the number with the `count` digits of `more` appended to its digits.
+/// Appends the `count` digits of `more` to the digits of `number`, and returns the result.
 pub fn with_digits(number: u32, count: u8, more: u32) -> u32
     requires count { count ≤ 8 }
     requires more { more < 2 ^ count }

@@ -1,8 +1,8 @@
 //! Reads bits from bytes and writes bits to bytes, the highest bit of each byte first.
 //!
-//! The fields of an AV1 dependency descriptor are numbers of n bits, f(n), and numbers below n in a
-//! variable number of bits, ns(n) (RTP Payload Format For AV1 v1.0, Appendix A). [`BitReader`] reads
-//! them from a slice. [`BitWriter`] appends them to a buffer of 2,040 bytes. Nothing here takes memory.
+//! An AV1 dependency descriptor has two kinds of fields (RTP Payload Format For AV1 v1.0, Appendix A). f(n) is a number in n bits, and ns(n) is
+//! a number below n in a variable number of bits. [`BitReader`] reads such fields from a slice. [`BitWriter`] appends them to a buffer of 2,040
+//! bytes. Nothing here allocates memory.
 #![tactic(auto)]
 
 mod digits;

@@ -8,12 +8,12 @@ use thiserror::Error;
 #[error("fewer bits are left than the value needs")]
 pub struct Short;
 
-/// The remaining bits of a slice. They are read with the highest bit of each byte first.
+/// The remaining bits of a slice. The highest bit of each byte is read first.
 #[derive(Clone, Copy, Debug)]
 pub struct BitReader<'a> {
-    /// The remaining bytes, beginning with the byte that has the next bit.
+    /// The remaining bytes. The first of them has the next bit.
     rest: &'a [u8],
-    /// How many bits of the first remaining byte were read already.
+    /// How many bits of the first remaining byte have been read already.
     used: u8,
     ghost in_byte: { used < 8 },
 }
@@ -24,7 +24,7 @@ impl<'a> BitReader<'a> {
     ghost use Rattle.dd_bits.specs.Reader.{bits_left};
     ghost use Rattle.dd_bits.specs.Sequences.{Gives, fixed_or, non_symmetric_or};
 
-    /// A reader of all bits of the bytes.
+    /// A reader of all bits of these bytes.
     pub fn new(bytes: &'a [u8]) -> BitReader<'a>
         ensures { bits_left result ≡ bits_of_bytes bytes.now }
     {
@@ -34,7 +34,7 @@ impl<'a> BitReader<'a> {
         }
     }
 
-    /// Returns how many bits are left, or `usize::MAX` if there are more.
+    /// Returns how many bits are left, or `usize::MAX` if more than that are left.
     pub fn left(&self) -> usize
         ensures { result ≡ min (length (bits_left self.now)) usize.MAX }
     {
@@ -47,14 +47,14 @@ impl<'a> BitReader<'a> {
         }
     }
 
-    /// Returns how many bits are left; unlike [`BitReader::left`], without an upper limit.
+    /// Returns how many bits are left. Unlike [`BitReader::left`], this has no upper limit.
     pub(crate) fn count(&self) -> u128
         ensures { result ≡ length (bits_left self.now) }
     {
         (self.rest.len() as u128 * 8).saturating_sub(self.used as u128)
     }
 
-    /// Reads a number of n bits, f(n). Returns `Short` if fewer than n bits are left; the reader is then as before.
+    /// Reads a number of n bits, f(n). Returns `Short` and leaves the reader unchanged if fewer than n bits are left.
     pub fn bits(&mut self, n: u8) -> Result<u32, Short>
         requires { n ≤ 32 }
         ensures read { IfOk result (λ v. fixed n (bits_left self.old) ≡ Some (v, bits_left self.new)) }
@@ -68,7 +68,7 @@ impl<'a> BitReader<'a> {
         Ok(self.take_bits(n))
     }
 
-    /// Reads a number below n, ns(n). Returns `Short` if too few bits are left; the reader is then as before.
+    /// Reads a number below n, ns(n). Returns `Short` and leaves the reader unchanged if too few bits are left.
     pub fn ns(&mut self, n: u32) -> Result<u32, Short>
         requires { 1 ≤ n }
         ensures read { IfOk result (λ v. non_symmetric n (bits_left self.old) ≡ Some (v, bits_left self.new)) }
@@ -91,7 +91,7 @@ impl<'a> BitReader<'a> {
         }
     }
 
-    /// The same as [`BitReader::bits`], but returns the caller's error `short` in place of `Short`.
+    /// Like [`BitReader::bits`], but returns the caller's error `short` instead of `Short`.
     pub fn bits_or<E: Copy>(&mut self, n: u8, short: E) -> Result<u32, E>
         requires { n ≤ 32 }
         ensures read { Gives (λ v. v) result self.new (fixed_or short n (bits_left self.old)) }
@@ -101,7 +101,7 @@ impl<'a> BitReader<'a> {
         self.bits(n).map_err(|_| short)
     }
 
-    /// The same as [`BitReader::ns`], but returns the caller's error `short` in place of `Short`.
+    /// Like [`BitReader::ns`], but returns the caller's error `short` instead of `Short`.
     pub fn ns_or<E: Copy>(&mut self, n: u32, short: E) -> Result<u32, E>
         requires { 1 ≤ n }
         ensures read { Gives (λ v. v) result self.new (non_symmetric_or short n (bits_left self.old)) }
@@ -111,7 +111,7 @@ impl<'a> BitReader<'a> {
         self.ns(n).map_err(|_| short)
     }
 
-    /// Reads n bits, byte by byte: from each byte as many bits as are still needed, or as many as are left in that byte.
+    /// Reads n bits, byte by byte. From each byte it reads the bits that are still needed, but not more than the byte has left.
     pub(crate) fn take_bits(&mut self, n: u8) -> u32
         requires width { n ≤ 32 }
         requires enough { n ≤ length (bits_left self.old) }

@@ -12,13 +12,13 @@ pub struct NoRoom;
 /// The capacity of a writer, in bytes.
 const MOST: usize = 2040;
 
-/// A buffer of at most 2,040 bytes to which bits are appended, the highest bit of each byte first.
+/// A buffer of at most 2,040 bytes, to which bits are appended. The highest bit of each byte is written first.
 #[derive(Clone, Copy, Debug)]
 pub struct BitWriter {
     bytes: [u8; MOST],
     /// How many bytes are full.
     len: usize,
-    /// How many bits are in the byte after the full ones, fewer than 8. `pending` is the number that these bits encode.
+    /// How many bits, 0 to 7, have been written to the byte after the full ones. `pending` is the number that these bits encode.
     used: u8,
     pending: u32,
     ghost whole: { length bytes ≡ 2040 },
@@ -46,7 +46,7 @@ impl BitWriter {
         }
     }
 
-    /// Removes all bits. The bytes aren't cleared, so this costs less than a new writer.
+    /// Removes all bits. Reusing a writer costs less than a new one, because the bytes aren't cleared.
     pub fn clear(&mut self)
         ensures { written self.new ≡ [] }
     {
@@ -55,7 +55,7 @@ impl BitWriter {
         self.pending = 0;
     }
 
-    /// Appends a number in n bits, f(n). Returns `NoRoom` if the bits would pass 2,040 bytes; the writer is then as before.
+    /// Appends a number in n bits, f(n). Returns `NoRoom` and leaves the writer unchanged if the bits would exceed 2,040 bytes.
     pub fn put(&mut self, n: u8, value: u32) -> Result<(), NoRoom>
         requires { value < 2 ^ n }
         ensures put { Puts result self.old self.new (bits_of n value) }
@@ -69,7 +69,7 @@ impl BitWriter {
         Ok(())
     }
 
-    /// Appends a number below n in its encoding ns(n). Returns `NoRoom` if the bits would pass 2,040 bytes; the writer is then as before.
+    /// Appends a number below n in its encoding ns(n). Returns `NoRoom` and leaves the writer unchanged if the bits would exceed 2,040 bytes.
     pub fn put_ns(&mut self, n: u32, value: u32) -> Result<(), NoRoom>
         requires { value < n }
         ensures put { Puts result self.old self.new (non_symmetric_bits n value) }
@@ -85,8 +85,8 @@ impl BitWriter {
         }
     }
 
-    /// Appends the bits that a reader read between two moments: `from` is a copy of the reader at the earlier moment, `to`
-    /// a copy at the later moment. Returns `NoRoom` if the bits would pass 2,040 bytes; the writer is then as before.
+    /// Appends bits that a reader has read. `from` is a copy of the reader before it read them, and `to` is a copy of the reader after that.
+    /// Returns `NoRoom` and leaves the writer unchanged if the bits would exceed 2,040 bytes.
     pub fn put_read(&mut self, from: BitReader<'_>, to: BitReader<'_>) -> Result<(), NoRoom>
         ensures put { Puts result self.old self.new (bits_between from.entry to.entry) }
         ensures unchanged { OnErr result (self.new ≡ self.old) }
@@ -101,7 +101,7 @@ impl BitWriter {
         Ok(())
     }
 
-    /// Returns the bytes that contain the bits. Zero bits fill the last byte.
+    /// Returns the written bits as bytes. Zero bits fill up the last byte.
     pub fn bytes(&self) -> &[u8]
         ensures { IsPadded (written self.now) result.now }
     {
@@ -128,7 +128,7 @@ impl BitWriter {
         }
     }
 
-    /// Appends the lowest n bits of `value`, byte by byte: to each byte as many of them as fit.
+    /// Appends the lowest n bits of `value`, byte by byte. Each byte gets the bits that still fit into it.
     fn put_bits(&mut self, n: u8, value: u32)
         requires { length (written self.old) + n ≤ room }
         ensures { written self.new ≡ written self.old ++ bits_of n value }
@@ -141,7 +141,7 @@ impl BitWriter {
         }
     }
 
-    /// Appends the lowest `count` bits of `value`, all of which fit in the byte after the full ones.
+    /// Appends the lowest `count` bits of `value`. All of them fit into the byte after the full ones.
     fn put_in_byte(&mut self, count: u8, value: u32)
         requires some { 1 ≤ count }
         requires in_byte { self.old.used + count ≤ 8 }

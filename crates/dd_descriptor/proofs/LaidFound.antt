@@ -120,7 +120,7 @@ indication_laid bits x e =
     subst (λ (y : Dti × List Bool). Takes (λ d. Unit {0}) indication_bits bits y) (ok_is {E = DdFault} (dti_of a.0.0, a.0.1) x a.2)
     (tt, number.1 ∙ ap (λ (code : ℕ). bits_of 2 code ++ a.0.1) (sym (dti_code-of a.0.0 (omega (arith, number.0)))))
 
--- what the next distance was read from, or the end of them
+-- the bits from which the next distance, or the end of the distances, was read
 record IsNext (bits : List Bool) (d : ℕ) (rest : List Bool) : Type 0 where
   size : ℕ
   holds : HoldsDistance size d
@@ -258,7 +258,7 @@ holding_same : (carried force : Option TemplateStructure) (s : TemplateStructure
 holding_same None force s holds t is = absurd cc
 holding_same (Some u) force s holds t is = let same : s ≡ t = cc in ap (λ (x : TemplateStructure). x.target_count) same
 
--- the flags of a descriptor of `len` bytes: they are there, or nothing is
+-- the flags of a descriptor of `len` bytes: the descriptor has flags, or ends before them
 record HasFlags (len : ℕ) (bits : List Bool) (x : Flags × List Bool) : Type 0 where
   is_long : Bool
   long : is_long ≡ true → bits ≡ flag_parts x.0 x.1
@@ -296,7 +296,7 @@ none_is : {A : Type 0} (o : Option A) → is_some o ≡ false → o ≡ None
 none_is None e = refl
 none_is (Some x) e = absurd cc
 
--- no bits are left over where there were none
+-- no bits are left if there were none
 last_empty : (a b c d : List Bool) → [] ≡ a ++ (b ++ (c ++ d)) → d ≡ []
 last_empty a b c d e = empty_is d (omega (arith, ap length e, length-append a (b ++ (c ++ d)), length-append b (c ++ d), length-append c d))
 
@@ -304,7 +304,7 @@ pub length-flag_bits : (b : Bool) → length (flag_bits b) ≡ 1
 length-flag_bits true = length-bits_of 1 1
 length-flag_bits false = length-bits_of 1 0
 
--- nothing follows three bytes
+-- no bits follow three bytes
 rest_empty : (bytes : List ℕ) (a b : Bool) (template number : ℕ) (rest : List Bool) → length bytes ≤ 3 → bits_of_bytes bytes ≡ flag_bits a ++ (flag_bits b ++ (bits_of 6 template ++ (bits_of 16 number ++ rest))) → rest ≡ []
 rest_empty bytes a b template number rest few is =
     empty_is rest (omega (

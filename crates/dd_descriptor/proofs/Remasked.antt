@@ -1,4 +1,4 @@
--- A remasked descriptor has the parts of the old one, and reads as the old one except for its mask.
+-- A remasked descriptor has the parts of the old one, and is read as the old one except for its mask.
 use Rattle.std.proofs.Common.{◌≡◌, ℕ, ◌+◌, ◌-◌, ◌*◌, ◌<◌, ◌^◌, Bool, true, false, List, ◌++◌, length, replicate, Option, Some, None, Result, Ok, Err, refl, sym, ap, subst, ◌∙◌, append_assoc, arith}
 use Rattle.std.specs.Prelude.{is_some, IfSome, IsErr, OnErr, OnOk, ◌↔◌, ◌≤◌}
 use Rattle.std.proofs.lemmas.List.{length-append, take_at}
@@ -67,7 +67,7 @@ parts_laid s force l c bytes holds laid =
     bind_is (held_parts_at c.template (flags_of l.has_mask c) c.structure force rest) _ _ _ (held_parts_again c.structure force s l c holds laid.ranges laid.mask laid.sizes) (
     rw (head, taken_front (carried_bits c.structure) rest) refl))))
 
--- they make the new descriptor
+-- the parts make the new descriptor
 pub with_mask-laid : (s : TemplateStructure) (l : Layout) (c : Content) (mask : ℕ) → with_mask (laid_parts s l c) mask ≡ remasked_bits s l c mask
 unfolding remasked_bits laid_flags
 with_mask-laid s l c mask = refl
@@ -129,7 +129,7 @@ pub all_made : {E : Type 0} (bytes out : List ℕ) (force : Option TemplateStruc
 all_made bytes out force mask c (Ok x) made d = made_is bytes out force mask c d made
 all_made bytes out force mask c (Err e) made d = tt
 
--- what was filled in reads as the same content except for its mask
+-- the written bytes are read as the same content, except for its mask
 pub made_reads : {E : Type 0} (bytes out : List ℕ) (force : Option TemplateStructure) (mask : ℕ) (c : Content) (r : Result (Unit {0}) E) → IfSome force IsWellFormed → TakesMask bytes force mask
     → OnOk r (MakesBytes (parts_at bytes force) mask out) → descriptor_at bytes force ≡ Ok c → OnOk r (descriptor_at out force ≡ Ok (with_new_mask c mask))
 made_reads bytes out force mask c (Err e) well takes made reads = tt

@@ -1,4 +1,4 @@
--- What is written is laid out as a descriptor, with the least sizes and zeros after it.
+-- The written bytes are laid out as a descriptor, with the least sizes and followed by zeros.
 use Rattle.std.proofs.Common.{◌≡◌, ℕ, ◌-◌, ◌<◌, ◌^◌, Bool, false, cond, List, [], ◌∷◌, ◌++◌, length, map, replicate, Option, Some, None, Ok, refl, sym, ap, subst, ◌∙◌, append_assoc, inl, inr, arith}
 use Rattle.std.specs.Prelude.{is_some, IfSome, ◌||◌}
 use Rattle.std.specs.List.{flat_map, AllByRecursion}

@@ -1,6 +1,6 @@
--- The bits of a descriptor laid end to end, for every descriptor, not only for those that are written here. A mask may follow a structure
--- that implies it, a distance may have more half bytes than it needs, and any bits may follow the end.
--- RTP Payload Format For AV1 v1.0, Appendix A, dependency_descriptor. The code reads field after field from the start.
+-- The bits of a descriptor as a concatenation, for every descriptor, not only for those that this crate writes. A structure may be followed by
+-- a mask that it implies, a distance may have more 4-bit units than it needs, and any bits may follow the end. RTP Payload Format For AV1 v1.0,
+-- Appendix A, dependency_descriptor. The code reads field after field from the start.
 use Rattle.std.specs.Prelude.{◌≡◌, ℕ, ◌-◌, ◌*◌, ◌≤◌, ◌^◌, Bool, true, false, List, [], ◌∷◌, ◌++◌, Option, Some, None, IfSome, is_some, if◌then◌else◌}
 use Rattle.std.specs.List.{flat_map}
 use Rattle.dd_bits.specs.Bits.{bits_of, bits_of_bytes}
@@ -10,15 +10,15 @@ use Rattle.dd_descriptor.specs.declared.descriptor.Custom.{Custom}
 use Rattle.dd_descriptor.specs.Content.{FrameContent, Content, holding}
 use Rattle.dd_descriptor.specs.Spelling.{flag_bits, head_bits, carried_bits, where_custom, settled_mask, IsWritable}
 
--- what a descriptor's bits have that its content doesn't fix
+-- the properties of a descriptor's bits that its content doesn't determine
 pub record Layout : Type 0 where
-  -- whether anything follows the first three bytes
+  -- whether further fields follow the first three bytes
   pub is_long : Bool
   -- whether there is a mask
   pub has_mask : Bool
-  -- how many half bytes each of the frame's own distances has
+  -- how many 4-bit units each of the frame's own distances has
   pub sizes : List ℕ
-  -- what follows the frame's definition
+  -- the bits after the frame's definition
   pub behind : List Bool
 
 -- ---- the parts
@@ -35,7 +35,7 @@ laid_mask targets true (Some mask) = bits_of targets mask
 abbrev pub laid_distance : ℕ → ℕ → List Bool
 laid_distance size d = bits_of 2 size ++ bits_of (4 * size) (d - 1)
 
--- each distance in its number of half bytes, and the code that ends them
+-- each distance in its number of 4-bit units, and the code that ends the distances
 abbrev pub laid_distances : List ℕ → List ℕ → List Bool
 laid_distances [] ds = bits_of 2 0
 laid_distances (size ∷ sizes) [] = bits_of 2 0
@@ -46,23 +46,23 @@ laid_frame sizes custom f =
     where_custom custom.dtis (flat_map indication_bits f.indications)
     ++ (where_custom custom.fdiffs (laid_distances sizes f.distances) ++ where_custom custom.chains (flat_map (bits_of 8) f.links))
 
--- what follows the first three bytes
+-- the bits after the first three bytes
 unfoldable pub laid_more : ℕ → Layout → Content → List Bool
 laid_more targets l c =
     laid_flags l.has_mask c ++ (carried_bits c.structure ++ (laid_mask targets l.has_mask c.mask ++ (laid_frame l.sizes c.custom c.frame ++ l.behind)))
 
--- all the bits, for a structure with this many decode targets
+-- all bits of a descriptor, for a structure with this number of decode targets
 unfoldable pub laid_bits : ℕ → Layout → Content → List Bool
 laid_bits targets l c = head_bits c ++ (if l.is_long then laid_more targets l c else [])
 
 -- ---- which contents have such bits
 
--- there is a mask if the flag says so; else the mask is the one that a carried structure implies, or none
+-- there is a mask if the flag says so; otherwise the mask is the one that a carried structure implies, or none
 abbrev pub IsMask : Bool → Option TemplateStructure → Option ℕ → Type 0
 IsMask true carried mask = is_some mask ≡ true
 IsMask false carried mask = mask ≡ settled_mask carried None
 
--- this many half bytes are enough for this distance
+-- this number of 4-bit units is enough for this distance
 abbrev pub HoldsDistance : ℕ → ℕ → Type 0
 HoldsDistance size d = (1 ≤ size) × (size ≤ 3) × (1 ≤ d) × (d ≤ 2 ^ (4 * size))
 
@@ -90,7 +90,7 @@ pub record IsLaid (s : TemplateStructure) (l : Layout) (c : Content) (bytes : Li
   pub short : l.is_long ≡ false → IsShort l c
   pub bits : bits_of_bytes bytes ≡ laid_bits s.target_count l c
 
--- and they are so with the structure that they carry, or else with the one in force
+-- the bytes are the descriptor of this content, read by the structure that they carry or, if there is none, by the one in force
 pub record IsDescriptor (bytes : List ℕ) (force : Option TemplateStructure) (c : Content) : Type 0 where
   pub by : TemplateStructure
   pub layout : Layout

@@ -1,5 +1,5 @@
--- The bits of a descriptor part by part, as they are found when it is read.
--- RTP Payload Format For AV1 v1.0, Appendix A, dependency_descriptor. The code keeps the reader from before and from after each part.
+-- The parts of a descriptor's bits, as reading finds them. RTP Payload Format For AV1 v1.0, Appendix A, dependency_descriptor. The code keeps
+-- the reader from before and from after each part.
 use Rattle.std.specs.Prelude.{◌≡◌, ℕ, ◌-◌, ◌*◌, ◌<◌, ◌≤◌, Bool, true, List, ◌++◌, length, take, Option, Result, Ok, Err, is_some}
 use Rattle.dd_bits.specs.Bits.{bits_of, bits_of_bytes}
 use Rattle.dd_bits.specs.Reader.{bits_between}
@@ -22,7 +22,7 @@ pub record PartBits : Type 0 where
   -- the frame's definition
   pub frame : List Bool
 
--- of these bits, those that were read when the others are left
+-- the first of these bits, which were read if the other bits are left
 abbrev pub taken : List Bool → List Bool → List Bool
 taken bits rest = take (length bits - length rest) bits
 
@@ -65,7 +65,7 @@ with_mask p mask =
     p.head ++ ((flag_bits p.flags.structure ++ (flag_bits true ++ (flag_bits p.flags.dtis ++ (flag_bits p.flags.fdiffs ++ flag_bits p.flags.chains))))
     ++ (p.structure ++ (bits_of p.targets mask ++ p.frame)))
 
--- these are the bytes of the parts with this mask, and an element has space for them
+-- these are the bytes of the parts with this mask, and they fit into a header extension element
 abbrev pub MakesBytes : Result PartBits DdFault → ℕ → List ℕ → Type 0
 MakesBytes (Err fault) mask out = ⊥
 MakesBytes (Ok parts) mask out = IsPadded (with_mask parts mask) out × (length out ≤ 255)

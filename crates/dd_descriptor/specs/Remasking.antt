@@ -1,6 +1,6 @@
--- A descriptor with another mask. Own rule, over the bits of RTP Payload Format For AV1 v1.0, Appendix A: the other parts stay the same,
--- so a distance keeps its size. The mask's flag is set, and the new mask is in its place. What followed the frame's definition is
--- dropped. The code copies bits between positions in the bytes.
+-- A descriptor with another mask. Own rule, over the bits of RTP Payload Format For AV1 v1.0, Appendix A: the other parts stay the same, so a
+-- distance keeps its size. The mask's flag is set, and the new mask is in its place. Bits after the frame's definition are dropped. The code
+-- copies bits between positions in the bytes.
 use Rattle.std.specs.Prelude.{◌≡◌, ℕ, ◌<◌, ◌^◌, true, List, Bool, ◌++◌, Option, Some, Ok}
 use Rattle.dd_bits.specs.Bits.{bits_of}
 use Rattle.dd_structure.specs.TemplateStructure.{TemplateStructure}
@@ -18,11 +18,11 @@ remasked_bits s l c mask = head_bits c ++
 abbrev pub remasked : {bytes : List ℕ} {force : Option TemplateStructure} {c : Content} → IsDescriptor bytes force c → ℕ → List Bool
 remasked {c = c} d mask = remasked_bits d.by d.layout c mask
 
--- the same content but for its mask
+-- the same content, except for its mask
 abbrev pub with_new_mask : Content → ℕ → Content
 with_new_mask c mask = record c { mask = Some mask }
 
--- the bytes read as a descriptor, and the mask has no bit past the last decode target
+-- the bytes can be read as a descriptor, and the mask has no bit set after the last decode target
 pub record TakesMask (bytes : List ℕ) (force : Option TemplateStructure) (mask : ℕ) : Type 0 where
   pub content : Content
   pub by : TemplateStructure

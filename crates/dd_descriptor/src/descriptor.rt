@@ -4,20 +4,19 @@ ghost use Rattle.dd_descriptor.specs.Seen.{IsBlank};
 use dd_structure::Structure;
 use sfu_base::Dti;
 
-/// Which parts of a frame's definition are the frame's own, and not its template's.
+/// Says which parts of a frame's definition are the frame's own. All other parts are those of its template.
 #[derive(Clone, Copy, Debug, PartialEq, Eq)]
 pub struct Custom {
-    /// The decode target indications.
+    /// Whether the decode target indications are the frame's own.
     pub dtis: bool,
-    /// The distances to the frames that this frame refers to.
+    /// Whether the distances to the frames that this frame refers to are its own.
     pub fdiffs: bool,
-    /// The distances to the chains' previous frames.
+    /// Whether the distances to the chains' previous frames are the frame's own.
     pub chains: bool,
 }
 
-/// What the dependency descriptor of a packet says (RTP Payload Format For AV1 v1.0, Appendix A). Only the first entries of the arrays
-/// count: in `dtis` as many as the structure that applies has decode targets, in `links` as many as it has chains, and in `refs`
-/// `ref_count`.
+/// The contents of a packet's dependency descriptor (RTP Payload Format For AV1 v1.0, Appendix A). Only the first entries of the arrays are
+/// used: one for each decode target in `dtis`, one for each chain in `links`, and `ref_count` in `refs`.
 #[derive(Debug, Drop)]
 pub struct Descriptor {
     /// Whether the packet is the first of its frame.
@@ -30,27 +29,27 @@ pub struct Descriptor {
     pub number: u16,
     /// The structure that the descriptor carries, if it carries one.
     pub structure: Option<Structure>,
-    /// The active decode targets: bit i, the lowest being bit 0, is 1 where target i is active. A structure that is carried without a mask
-    /// makes all its targets active. `None` where the descriptor has neither.
+    /// The active decode targets: bit i is 1 if target i is active, and bit 0 is the lowest. If the descriptor carries a structure without a
+    /// mask, all targets of the structure are active. `None` if it carries neither.
     pub mask: Option<u32>,
     /// Spatial id, 0 to 3.
     pub spatial: u8,
     /// Temporal id, 0 to 7.
     pub temporal: u8,
-    /// Which parts of the frame's definition are its own.
+    /// Which parts of the frame's definition are the frame's own.
     pub custom: Custom,
     /// The frame's indication for each decode target.
     pub dtis: [Dti; 32],
-    /// How many frames this one refers to, at most 16.
+    /// How many frames this frame refers to, at most 16.
     pub ref_count: u8,
-    /// How many frame numbers back each of these frames is, 1 to 4,096.
+    /// The distance in frame numbers back to each of these frames, 1 to 4,096.
     pub refs: [u16; 16],
-    /// For each chain, how many frame numbers back the chain's previous frame is; 0 where none is needed.
+    /// For each chain, the distance in frame numbers back to the chain's previous frame, or 0 if no previous frame is needed.
     pub links: [u8; 32],
 }
 
 impl Descriptor {
-    /// A blank descriptor, over which others can be read.
+    /// A blank descriptor, which can be overwritten by reading.
     pub fn new() -> Descriptor
         ensures { IsBlank result }
     {

@@ -1,4 +1,4 @@
-//! The fields of a descriptor that need no structure.
+//! Reads the fields of a descriptor that need no structure.
 
 ghost use Rattle.std.specs.Prelude.{◌≡◌, ◌<◌, ◌↔◌, Ok, Option, IsErr, IfOk, length};
 ghost use Rattle.dd_structure.specs.TemplateStructure.{TemplateStructure};
@@ -10,8 +10,8 @@ use crate::descriptor::Edges;
 use crate::reading::fields::head;
 use dd_bits::Short;
 
-/// Reads the start and end flags and the frame number from the first three bytes of a descriptor, whatever follows them (RTP Payload Format
-/// For AV1 v1.0, Appendix A, mandatory_descriptor_fields). Returns `Short` if there are fewer than three bytes.
+/// Reads the start and end flags and the frame number from the first three bytes of a descriptor (RTP Payload Format For AV1 v1.0, Appendix A,
+/// mandatory_descriptor_fields). Any bytes may follow. Returns `Short` if there are fewer than three bytes.
 pub fn edges(bytes: &[u8]) -> Result<Edges, Short>
     ensures short { IsErr result ↔ (length bytes.now < 3) }
     ensures front { IfOk result (BeginsWith bytes.now) }

@@ -1,4 +1,4 @@
-//! The descriptor that was read last, of packets that are read one after another.
+//! Reads the descriptors of consecutive packets, and keeps the newest.
 
 ghost use Rattle.std.specs.Prelude.{◌≡◌, ◌≤◌, OnOk};
 ghost use Rattle.std.specs.Option.{option_copied};
@@ -13,9 +13,9 @@ use crate::reading::read_into;
 use dd_structure::Structure;
 use std::marker::Model;
 
-/// Reads descriptors one after another and keeps the newest, which is what clauses see. A structure is long. So descriptors that carry one
-/// are read into one buffer, and all others into a second one. A descriptor without a structure (most have none) then needn't clear the
-/// first buffer, and the next structure is read over the one in it.
+/// Reads descriptors one after another, and keeps the newest. Contracts see only the newest descriptor. A structure is long, so descriptors
+/// that carry one are read into one buffer, and all others into a second buffer. Most descriptors carry no structure. Reading such a descriptor
+/// doesn't clear the first buffer, and the next structure overwrites the one in it.
 #[derive(Debug, Drop)]
 pub struct NewestDescriptor {
     carrying: Descriptor,
@@ -34,7 +34,7 @@ impl Model for NewestDescriptor {
 }
 
 impl NewestDescriptor {
-    /// Before any read: the newest descriptor is a blank one.
+    /// A value that has read nothing yet. Its newest descriptor is blank.
     pub fn new() -> NewestDescriptor
         ensures { IsBlank result }
     {
@@ -45,7 +45,7 @@ impl NewestDescriptor {
         }
     }
 
-    /// Reads the next descriptor, as [`read_into`] does. After a fault the newest descriptor may have any contents.
+    /// Reads the next descriptor, as [`read_into`] does. After a fault, the newest descriptor may have any contents.
     pub fn read(&mut self, bytes: &[u8], force: Option<&Structure>) -> Result<(), DdFault>
         ensures read { AnswersIn (option_copied force.entry) self.new result (descriptor_at bytes.now (option_copied force.entry)) }
         ensures writable { OnOk result (IsWritableBy (holding self.new.structure (option_copied force.entry))
@@ -73,8 +73,8 @@ impl NewestDescriptor {
     }
 }
 
-// Whether the first bit after the first three bytes, the flag of a carried structure, is set. A wrong answer does no harm: any descriptor
-// can be in either buffer.
+// Whether the flag of a carried structure is set, which is the first bit after the first three bytes. A wrong result does no harm, since either
+// buffer can have any descriptor.
 fn is_flagged(bytes: &[u8]) -> bool {
     match bytes {
         [_, _, _, flags, ..] => *flags >= 0x80,

@@ -1,4 +1,4 @@
-//! Reads a descriptor, field by field in the order of the bits.
+//! Reads a descriptor field by field, in the order of the bits.
 
 mod distances;
 pub mod fields;
@@ -25,7 +25,7 @@ use dd_bits::BitReader;
 use dd_structure::Structure;
 use sfu_base::Dti;
 
-/// Reads the carried structure, in place of what was there. Out of line: few descriptors carry one.
+/// Reads the carried structure into `out`, which is overwritten. Out of line: few descriptors carry one.
 #[tactic(auto, unfolding(crate::specs::Reading::carried_at, dd_structure::specs::Reading::some_structure_at))]
 #[inline(never)]
 fn put_structure(bits: &mut BitReader<'_>, out: &mut Option<Structure>) -> Result<(), DdFault>
@@ -37,7 +37,7 @@ fn put_structure(bits: &mut BitReader<'_>, out: &mut Option<Structure>) -> Resul
     }
 }
 
-// Removes the structure. Out of line: this is rare and clears much.
+// Removes the structure. Out of line: this happens rarely, and clears much memory.
 #[cold]
 #[inline(never)]
 fn clear(out: &mut Option<Structure>)
@@ -46,7 +46,7 @@ fn clear(out: &mut Option<Structure>)
     *out = None;
 }
 
-/// Reads the carried structure into `out`, if there is one, in place of what was there; else `out` becomes `None`.
+/// If the descriptor carries a structure, reads it into `out`, which is overwritten. Without a structure, `out` becomes `None`.
 #[tactic(auto, unfolding(crate::specs::Reading::carried_at))]
 #[inline(always)]
 pub fn put_carried(
@@ -59,14 +59,14 @@ pub fn put_carried(
     if is_present {
         return put_structure(bits, out);
     }
-    // A structure is long: where `out` is `None` already, it isn't written.
+    // A structure is long, so `out` isn't written if it is `None` already.
     if out.is_some() {
         clear(out);
     }
     Ok(())
 }
 
-/// Returns the active decode targets: the mask that is read, or all where only a structure is carried; else `None`.
+/// Returns the active decode targets: the mask that is read, or all targets if there is a structure but no mask, or `None` if there is neither.
 #[tactic(auto, unfolding(crate::specs::Reading::mask_at))]
 #[inline(always)]
 pub fn mask(
@@ -88,7 +88,7 @@ pub fn mask(
     }
 }
 
-/// Reads what follows the structure: the mask and the frame's definition.
+/// Reads the fields that follow the structure: the mask and the frame's definition.
 #[tactic(auto, unfolding(crate::specs::Reading::body_at))]
 #[inline(always)]
 fn body(
@@ -111,7 +111,7 @@ fn body(
     Ok((mask, frame))
 }
 
-/// The carried structure, or else the one in force.
+/// The carried structure or, if there is none, the structure in force.
 #[inline(always)]
 fn held<'a>(carried: &'a Option<Structure>, force: Option<&'a Structure>) -> Option<&'a Structure>
     ensures { option_copied result ≡ holding carried.now (option_copied force.entry) }
@@ -158,7 +158,7 @@ fn held_body(
     }
 }
 
-/// A lemma, which does nothing: a structure in force is well formed.
+/// A lemma, which does nothing at run time: a structure in force is well formed.
 pub fn lemma_force_is_well_formed(force: Option<&Structure>)
     ensures { IfSome (option_copied force.entry) IsWellFormed }
 {
@@ -167,7 +167,7 @@ pub fn lemma_force_is_well_formed(force: Option<&Structure>)
     }
 }
 
-/// Reads each field into `out`, in place of what was there.
+/// Reads each field into `out`, which is overwritten.
 #[tactic(auto, unfolding(crate::specs::Reading::descriptor_at))]
 #[inline(always)]
 fn fill_fields(bytes: &[u8], force: Option<&Structure>, out: &mut Descriptor) -> Result<(), DdFault>
@@ -203,7 +203,7 @@ fn fill_fields(bytes: &[u8], force: Option<&Structure>, out: &mut Descriptor) ->
     Ok(())
 }
 
-/// Does what `fill_fields` does, for descriptors with flags. Out of line, so that the code for those without flags depends on nothing here.
+/// Does what `fill_fields` does, for descriptors with flags. Out of line, so that it doesn't slow down the code for descriptors without flags.
 #[inline(never)]
 fn fill_flagged(
     bytes: &[u8],
@@ -229,9 +229,9 @@ fn fill(bytes: &[u8], force: Option<&Structure>, out: &mut Descriptor) -> Result
     }
 }
 
-/// Reads a descriptor (RTP Payload Format For AV1 v1.0, Appendix A) into `out`, in place of what was there. A descriptor that carries no
-/// structure is read with `force`, the structure in force. Bits after the frame's definition are ignored. The error is the first fault from
-/// left to right; `out` may then have any contents. A descriptor that was read can be written.
+/// Reads a descriptor (RTP Payload Format For AV1 v1.0, Appendix A) into `out`, which is overwritten. A descriptor that carries no structure is
+/// read with `force`, the structure in force. Bits after the frame's definition are ignored. The error is the first fault from left to right.
+/// After an error `out` may have any contents. A descriptor that was read can be written.
 #[inline(always)]
 pub fn read_into(
     bytes: &[u8],
@@ -246,7 +246,7 @@ pub fn read_into(
     fill(bytes, force, out)
 }
 
-/// Reads as [`read_into`] does, into a new descriptor. A descriptor takes 5 KB: where many are read, reusing one costs less.
+/// Like [`read_into`], but returns a new descriptor. A descriptor takes 5 KB, so reusing one costs less if many are read.
 pub fn read(bytes: &[u8], force: Option<&Structure>) -> Result<Descriptor, DdFault>
     ensures read { Answers (option_copied force.entry) result (descriptor_at bytes.now (option_copied force.entry)) }
     ensures writable { IfOk result (λ d. IsWritableBy (holding d.structure (option_copied force.entry)) (content_of (option_copied force.entry) d)) }

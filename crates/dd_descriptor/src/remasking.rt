@@ -1,4 +1,4 @@
-//! Replaces the mask of a descriptor and leaves everything else as it is.
+//! Replaces the mask of a descriptor, and changes nothing else.
 
 ghost use Rattle.std.specs.Prelude.{◌≡◌, ◌<◌, ◌≤◌, ◌*◌, ◌%◌, ◌^◌, ◌↔◌, Some, Ok, IsErr, OnOk, OnErr, length};
 ghost use Rattle.std.specs.Option.{option_copied};
@@ -31,7 +31,7 @@ pub struct Part<'a> {
     pub to: BitReader<'a>,
 }
 
-/// The parts of a descriptor that stay when its mask is replaced.
+/// The parts of a descriptor that stay the same when its mask is replaced.
 #[derive(Clone, Copy)]
 pub struct Parts<'a> {
     pub head: Part<'a>,
@@ -41,7 +41,7 @@ pub struct Parts<'a> {
     pub frame: Part<'a>,
 }
 
-/// Returns how many decode targets there are, and the place of the frame's definition.
+/// Returns the number of decode targets, and the bits of the frame's definition.
 #[tactic(auto, unfolding(crate::specs::Parts::body_parts_at))]
 fn body_parts<'a>(
     bits: &mut BitReader<'a>,
@@ -114,7 +114,7 @@ fn parts_in<'a>(
     })
 }
 
-/// The lowest `count` bits of a mask, or all where `count` is 32 or more.
+/// The lowest `count` bits of a mask, or all bits if `count` is 32 or more.
 fn lowest(mask: u32, count: u8) -> u32
     ensures { result ≡ mask % 2 ^ count }
 {
@@ -148,7 +148,7 @@ fn put_mask(out: &mut BitWriter, targets: u8, mask: u32) -> Result<(), NoRoom>
     out.put(targets, lowest(mask, targets))
 }
 
-/// The working memory of [`remask`], 7 KB. Its contents don't matter. A caller that reuses it saves clearing it for each call.
+/// The working memory of [`remask`], which takes 7 KB. Its contents don't matter. If it is reused, it needn't be cleared for each call.
 #[derive(Debug, Drop)]
 pub struct RemaskRoom {
     structure: Option<Structure>,
@@ -171,8 +171,8 @@ impl Default for RemaskRoom {
     }
 }
 
-/// Does what [`remask`] does, but for any bytes and any mask. As many of the mask's lowest bits are written as there are decode targets.
-/// Returns `NoFit` also if the bytes don't read with the structure in force; `out` is then as before. The bytes are read once.
+/// Like [`remask`], but for any bytes and any mask. Of the mask, only the lowest bits are written, one for each decode target. Returns `NoFit`
+/// also if the bytes can't be read with the structure in force. After `NoFit` `out` is unchanged. The bytes are read once.
 pub fn remask_lowest(
     bytes: &[u8],
     force: Option<&Structure>,
@@ -201,11 +201,11 @@ pub fn remask_lowest(
     }
 }
 
-/// Replaces the contents of `out` with the same descriptor under another mask. Bit i of the mask (bit 0 is the lowest) says whether decode
-/// target i is active. Every other part is copied bit by bit, the bits after the frame's definition are dropped, and zeros fill the last
-/// byte. Returns `NoFit` if there would be more than 255 bytes; `out` is then as before.
+/// Replaces the contents of `out` with the same descriptor, but with this mask. Bit i of the mask (bit 0 is the lowest) says whether decode
+/// target i is active. All other parts are copied bit by bit. Bits after the frame's definition are dropped, and zeros fill up the last byte.
+/// Returns `NoFit` and leaves `out` unchanged if there would be more than 255 bytes.
 ///
-/// The bytes must read with the structure in force, and the mask must have no bit past the last decode target.
+/// The bytes must be a descriptor that can be read with the structure in force. In the mask, no bit after the last decode target may be set.
 pub fn remask(
     bytes: &[u8],
     force: Option<&Structure>,

@@ -1,4 +1,4 @@
--- The test whether two structures are the same decides that they are equal.
+-- The test of whether two structures are the same is true exactly if they are equal.
 use Rattle.std.proofs.Common.{◌≡◌, ℕ, zero, suc, ◌+◌, ◌-◌, ◌<◌, ◌≤◌, Bool, cond, List, [], ◌∷◌, ◌++◌, length, get_or, set, drop, replicate, refl, sym, subst, ap, ◌∙◌, arith, append_assoc, length-append, Decides}
 use Rattle.std.specs.Prelude.{◌≢◌}
 use Rattle.std.proofs.lemmas.List.{drop-replicate, get_or_append_left, set_at}
@@ -74,12 +74,12 @@ same_structure a b =
     (Decides-and _ _ (slice_eq-Decides same_template a.templates b.templates _ refl)
     (Decides-and _ _ (slice_eq-Decides Decides-eqb a.guards b.guards _ refl) (slice_eq-Decides same_resolution a.resolutions b.resolutions _ refl))))))
 
--- ---- what is filled up has the items of the list in front
+-- ---- a filled-up list begins with the items of the list
 
 pub at_front : {A : Type 0} (n : ℕ) (x d : A) (xs : List A) (i : ℕ) → i < length xs → get_or (filled_up n x xs) i d ≡ get_or xs i d
 at_front n x d xs i lt = get_or_append_left xs (drop (length xs) (replicate n x)) d i lt
 
--- one item more takes the next place
+-- one more item takes the next place
 pub filled_more : {A : Type 0} (n : ℕ) (x y : A) (xs : List A) (k : ℕ) → length xs ≡ k → k < n → set (filled_up n x xs) k y ≡ filled_up n x (xs ++ y ∷ [])
 filled_more {A = A} n x y xs k len lt =
     let gap : (n - length xs) ≡ suc (n - (k + 1)) = omega (arith, len) in

@@ -1,6 +1,6 @@
--- What the forwarder needs of a descriptor and of its template structure.
--- RTP Payload Format For AV1 v1.0, Appendix A. Lists by decode target or chain are filled up to 32 entries, and the distances up to 16,
--- like the arrays of a frame's meaning: entries past the counts have no meaning. The code fills those arrays when a frame becomes whole.
+-- The parts of a descriptor and of its template structure that the forwarder uses. RTP Payload Format For AV1 v1.0, Appendix A. Lists over
+-- decode targets or chains are filled up to 32 entries, and the distances up to 16, like the arrays of a frame's meaning. Entries after the
+-- counts have no meaning. The code fills those arrays when a frame becomes whole.
 use Rattle.std.specs.Prelude.{ℕ, zero, suc, ◌+◌, ◌==◌, ◌&&◌, Bool, true, false, List, [], ◌∷◌, ◌++◌, length, drop, replicate, map, Option, Some, None}
 use Rattle.std.specs.Cmp.Lexicographic.{pointwise}
 use Rattle.sfu_base.specs.declared.frame.Dti.{Dti}
@@ -18,7 +18,7 @@ use Rattle.dd_structure.specs.TemplateStructure.{Template, TemplateStructure}
 abbrev pub filled_up : {A : Type 0} → ℕ → A → List A → List A
 filled_up n x xs = xs ++ drop (length xs) (replicate n x)
 
--- what the forwarder needs of a descriptor, with its frame's definition in the form of a template
+-- the parts of a descriptor that the forwarder uses, with its frame's definition in the form of a template
 abbrev pub descriptor_with : (start end : Bool) (number : ℕ) (structure : Option TemplateStructure) (mask : Option ℕ) (frame : Template)
     → Descriptor TemplateStructure
 descriptor_with start end number structure mask frame = record {
@@ -74,6 +74,6 @@ is_same_structure a b =
     && (pointwise is_same_template a.templates b.templates
     && (pointwise ◌==◌ a.guards b.guards && pointwise is_same_resolution a.resolutions b.resolutions))))
 
--- What a format says of structures, where no packet is looked at: what is in force asks no more of one.
+-- A format with only its definitions on structures, which reads no packet. What is in force depends on nothing else of a format.
 abbrev pub structures_alone : Format TemplateStructure
 structures_alone = record { descriptor = λ force rest. Faulty; payload = λ rest. Empty; same = is_same_structure; layout = layout_of }

@@ -11,7 +11,7 @@ pub fn carried_structures_have_layouts()
     ensures { (s : TemplateStructure) → IsWellFormed s → IsLayout (layout_of s) }
 {}
 
-/// A law: `is_same_structure`, which compares two structures field by field, holds exactly when they are equal.
+/// A law: `is_same_structure`, which compares two structures field by field, is true exactly when they are equal.
 pub fn same_structures_are_equal()
     ensures { (a b : TemplateStructure) → (is_same_structure a b ≡ true) ↔ (a ≡ b) }
 {}

@@ -1,5 +1,5 @@
-//! What the forwarder needs of a template structure and a descriptor: the layout of decode targets and chains, and a frame's own fields, in
-//! arrays of fixed length (RTP Payload Format For AV1 v1.0, Appendix A). There are only definitions and their laws here, no code to run.
+//! The parts of a template structure and of a descriptor that the forwarder uses (RTP Payload Format For AV1 v1.0, Appendix A). These are the layout of
+//! decode targets and chains, and a frame's own fields, in arrays of fixed length. This crate has only definitions and their laws, and no code that runs.
 #![tactic(auto)]
 
 mod laws;

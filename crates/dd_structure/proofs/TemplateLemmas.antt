@@ -6,7 +6,7 @@ use Rattle.dd_structure.specs.declared.layer.Layer.{Layer}
 use Rattle.dd_structure.specs.TemplateStructure.{Template, templates_of, layers_of, indications_of, distances_of, links_of}
 use Rattle.dd_structure.specs.Spelling.{IsTemplate, IsDistance}
 
--- as many of each kind of field as there are layers
+-- the lists of all kinds of fields have the same length as the list of layers
 pub record AreAligned (ls : List Layer) (is : List (List Dti)) (ds ks : List (List ℕ)) : Type 0 where
   pub indications : length is ≡ length ls
   pub distances : length ds ≡ length ls

@@ -1,4 +1,4 @@
--- What the arrays of a structure contain.
+-- The structure that is in some arrays.
 use Rattle.std.specs.Prelude.{◌≡◌, ℕ, ◌≤◌, List, length, take, map}
 use Rattle.sfu_base.specs.declared.frame.Dti.{Dti}
 use Rattle.dd_structure.specs.declared.layer.Layer.{Layer}
@@ -52,7 +52,7 @@ pub record IsWhole (c : Columns) : Type 0 where
   pub within : IsWithin c
   pub well_formed : IsWellFormed (structure_of c)
 
--- the columns are equal in all entries that count, where the two have the same counts
+-- the columns are equal in all used entries, provided that both have the same counts
 pub record HaveSameFields (a b : Columns) : Type 0 where
   pub layers : take a.template_count a.layers ≡ take a.template_count b.layers
   pub indications : map (take a.target_count) (take a.template_count a.indications) ≡ map (take a.target_count) (take a.template_count b.indications)

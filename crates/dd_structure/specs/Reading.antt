@@ -1,7 +1,6 @@
--- The template structure that bits begin with, and the bits after it, or the first fault from left to right.
--- RTP Payload Format For AV1 v1.0, Appendix A, template_dependency_structure and the functions that it calls. The bounds on templates,
--- distances, spatial ids (0 to 3) and temporal ids (0 to 7) are those of the standard; that they are faults is an own rule.
--- The code fills arrays of fixed length in one pass.
+-- The template structure at the start of some bits, and the bits after it, or the first fault from left to right. RTP Payload Format For AV1
+-- v1.0, Appendix A, template_dependency_structure and the functions that it calls. The bounds on templates, distances, spatial ids (0 to 3) and
+-- temporal ids (0 to 7) are those of the standard; that they are faults is an own rule. The code fills arrays of fixed length in one pass.
 use Rattle.std.specs.Prelude.{ℕ, zero, suc, ◌+◌, ◌==◌, nat_lt, max, Bool, List, [], ◌∷◌, length, map, Option, Some, None, Result, Ok, Err, if◌then◌else◌}
 use Rattle.sfu_base.specs.declared.frame.Dti.{Dti}
 use Rattle.sfu_base.specs.Frame.{dti_of}
@@ -44,7 +43,7 @@ layers_at bits = do
 
 -- ---- template_dtis
 
--- an indication, or this fault where there are too few bits
+-- an indication, or this fault if there are too few bits
 unfoldable pub indication_or : {E : Type 0} → E → List Bool → Result (Dti × List Bool) E
 indication_or short bits = do
   code ← fixed_or short 2 bits
@@ -85,7 +84,7 @@ greatest (n ∷ ns) = max n (greatest ns)
 abbrev pub greatest_spatial : List Layer → ℕ
 greatest_spatial layers = greatest (map (λ l. l.spatial) layers)
 
--- how many resolutions there are: one for each spatial id from 0 to the greatest, where the flag is set
+-- how many resolutions there are: if the flag is set, one for each spatial id from 0 to the greatest
 abbrev pub resolution_count : ℕ → List Layer → ℕ
 resolution_count flag layers = if flag == 0 then 0 else greatest_spatial layers + 1
 

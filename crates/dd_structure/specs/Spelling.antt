@@ -1,6 +1,5 @@
--- The bits that spell a template structure, and which structures have such bits.
--- RTP Payload Format For AV1 v1.0, Appendix A, template_dependency_structure. The code goes over its arrays and stops at the first
--- field that doesn't fit.
+-- The bits with which a template structure is written, and which structures have such bits. RTP Payload Format For AV1 v1.0, Appendix A,
+-- template_dependency_structure. The code writes its arrays in order, and stops at the first field that doesn't fit.
 use Rattle.std.specs.Prelude.{◌≡◌, ℕ, ◌+◌, ◌-◌, ◌<◌, ◌≤◌, ◌^◌, nat_lt, Bool, List, [], ◌∷◌, ◌++◌, length, Some, Ok, if◌then◌else◌}
 use Rattle.std.specs.List.{flat_map, AllByRecursion}
 use Rattle.sfu_base.specs.declared.frame.Dti.{Dti}
@@ -65,7 +64,7 @@ structure_bits s = head_bits s ++ (template_bits s ++ (chain_bits s ++ resolutio
 
 -- ---- which structures have bits
 
--- one more of the same layer, or of the next temporal id, or of the next spatial id with temporal id 0
+-- a next template has the same layer, or the next temporal id, or the next spatial id and temporal id 0
 abbrev pub Follows : Layer → Layer → Type 0
 Follows before layer = (code : ℕ) × (code < 3) × (layer_after before code ≡ Ok (Some layer))
 
@@ -91,7 +90,7 @@ abbrev pub AreResolutions : List Layer → List (ℕ × ℕ) → Type 0
 AreResolutions layers [] = Unit {0}
 AreResolutions layers (r ∷ rs) = (length (r ∷ rs) ≡ greatest_spatial layers + 1) × AllByRecursion IsResolution (r ∷ rs)
 
--- each number is in its field's range, and each list has the length that the others give it
+-- each number is in its field's range, and the lengths of the lists agree with one another
 pub record IsWellFormed (s : TemplateStructure) : Type 0 where
   pub offset : s.offset < 2 ^ 6
   pub some_target : 1 ≤ s.target_count

@@ -1,18 +1,18 @@
--- What a template structure says: the value that contracts see.
--- RTP Payload Format For AV1 v1.0, Appendix A, template_dependency_structure. The standard and the code have one list for each kind of
--- field, template by template; here each template is one record.
+-- The contents of a template structure: the value that contracts see. RTP Payload Format For AV1 v1.0, Appendix A,
+-- template_dependency_structure. The standard and the code have one list for each kind of field, template by template; here each template is
+-- one record.
 use Rattle.std.specs.Prelude.{ℕ, List, [], ◌∷◌, map, slice_index_or}
 use Rattle.sfu_base.specs.declared.frame.Dti.{Dti}
 use Rattle.dd_structure.specs.declared.layer.Layer.{Layer}
 
--- what the frames that name this template have in common
+-- the fields that all frames with this template's id have in common
 pub record Template : Type 0 where
   pub layer : Layer
   -- for each decode target
   pub indications : List Dti
-  -- for each frame that the template refers to, how many frame numbers back it is
+  -- the distance in frame numbers back to each referenced frame
   pub distances : List ℕ
-  -- for each chain, how many frame numbers back its previous frame is, 0 where none is needed
+  -- for each chain, the distance in frame numbers back to its previous frame, or 0 if no previous frame is needed
   pub links : List ℕ
 
 pub record TemplateStructure : Type 0 where
@@ -21,16 +21,16 @@ pub record TemplateStructure : Type 0 where
   pub target_count : ℕ
   pub chain_count : ℕ
   pub templates : List Template
-  -- for each decode target, the chain that protects it; empty where there are no chains
+  -- for each decode target, the chain that protects it; empty if there are no chains
   pub guards : List ℕ
-  -- for each spatial id from 0, the width and height in pixels; empty where there are none
+  -- for each spatial id from 0 on, the width and height in pixels; empty if the structure has no resolutions
   pub resolutions : List (ℕ × ℕ)
 
 -- the layer of the first template
 abbrev pub first_layer : Layer
 first_layer = record { spatial = 0; temporal = 0 }
 
--- the template at an index from 0; only indexes below the number of templates count
+-- the template at an index, counted from 0; only indexes below the number of templates are used
 abbrev pub template_at : TemplateStructure → ℕ → Template
 template_at s i = slice_index_or s.templates i (record { layer = first_layer; indications = []; distances = []; links = [] })
 

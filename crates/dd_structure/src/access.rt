@@ -1,4 +1,4 @@
-//! The parts of a structure.
+//! Access to the parts of a structure.
 
 ghost use Rattle.std.specs.Prelude.{◌≡◌, ◌<◌, ◌≤◌, take, length, All};
 ghost use Rattle.dd_structure.specs.Reading.{guard_count};
@@ -28,7 +28,7 @@ impl Structure {
         self.columns.target_count
     }
 
-    /// How many chains there are, at most as many as decode targets.
+    /// How many chains there are: at most the number of decode targets.
     pub fn chain_count(&self) -> u8
         ensures value { result ≡ self.now.chain_count }
         ensures within { result ≤ self.now.target_count }
@@ -45,7 +45,7 @@ impl Structure {
         self.columns.template_count
     }
 
-    /// The layer of a template, by its index from 0.
+    /// The layer of the template with this index. Indices begin at 0.
     pub fn layer(&self, template: u8) -> Layer
         requires { template < length self.now.templates }
         ensures { result ≡ (template_at self.now template).layer }
@@ -64,8 +64,8 @@ impl Structure {
         &columns.indications[template as usize][..columns.target_count as usize]
     }
 
-    /// A template's indications, as the first entries of an array. An array is copied faster than a slice.
-    /// Entries past the last decode target don't count.
+    /// A template's indications, in the first entries of an array, which is copied faster than a slice. Entries after the last decode target
+    /// have no meaning.
     pub fn indication_row(&self, template: u8) -> &[Dti; 32]
         requires { template < length self.now.templates }
         ensures value { take self.now.target_count result.now ≡ (template_at self.now template).indications }
@@ -73,8 +73,7 @@ impl Structure {
         &self.columns.indications[template as usize]
     }
 
-    /// A template's frame differences: how many frame numbers back each referenced frame is. There are
-    /// at most 16, each 1 to 16.
+    /// A template's frame differences: the distances in frame numbers back to the referenced frames. There are at most 16, and each is 1 to 16.
     pub fn distances(&self, template: u8) -> &[u8]
         requires { template < length self.now.templates }
         ensures value { result.now ≡ (template_at self.now template).distances }
@@ -84,8 +83,8 @@ impl Structure {
         &distances.items[..distances.count as usize]
     }
 
-    /// How many frame differences a template has, at most 16, and an array that begins with the differences.
-    /// The other entries don't count.
+    /// The number of frame differences of a template, at most 16, and an array that begins with them. The other entries of the array have no
+    /// meaning.
     pub fn distance_row(&self, template: u8) -> (u8, &[u8; 16])
         requires { template < length self.now.templates }
         ensures value { take result.0 result.1.now ≡ (template_at self.now template).distances }
@@ -95,7 +94,8 @@ impl Structure {
         (distances.count, &distances.items)
     }
 
-    /// For each chain, how many frame numbers back the chain's previous frame is, 0 to 15; 0 where none is needed.
+    /// A template's links. For each chain, this is the distance in frame numbers back to the chain's previous frame, 1 to 15, or 0 if no previous
+    /// frame is needed.
     pub fn links(&self, template: u8) -> &[u8]
         requires { template < length self.now.templates }
         ensures value { result.now ≡ (template_at self.now template).links }
@@ -106,7 +106,7 @@ impl Structure {
         &columns.links[template as usize][..columns.chain_count as usize]
     }
 
-    /// A template's links, as the first entries of an array. Entries past the last chain don't count.
+    /// A template's links, in the first entries of an array. Entries after the last chain have no meaning.
     pub fn link_row(&self, template: u8) -> &[u8; 32]
         requires { template < length self.now.templates }
         ensures value { take self.now.chain_count result.now ≡ (template_at self.now template).links }
@@ -114,7 +114,7 @@ impl Structure {
         &self.columns.links[template as usize]
     }
 
-    /// The chain that protects each decode target; empty where there are no chains.
+    /// For each decode target, the index of the chain that protects it. Empty if there are no chains.
     pub fn guards(&self) -> &[u8]
         ensures value { result.now ≡ self.now.guards }
         ensures few { length result.now ≤ 32 }
@@ -123,8 +123,7 @@ impl Structure {
         &columns.guards[..guarded_targets(columns.chain_count, columns.target_count) as usize]
     }
 
-    /// The width and height of each spatial id in pixels, from id 0 to the greatest; empty where the structure has no
-    /// resolutions.
+    /// The width and height of each spatial id in pixels, from id 0 to the greatest. Empty if the structure has no resolutions.
     pub fn resolutions(&self) -> &[(u32, u32)]
         ensures { result.now ≡ self.now.resolutions }
     {

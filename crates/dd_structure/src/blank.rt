@@ -1,4 +1,4 @@
-//! A blank structure, over which another one is read.
+//! A blank structure, which is overwritten when another structure is read.
 
 ghost use Rattle.dd_structure.specs.Columns.{IsWhole};
 
@@ -16,7 +16,7 @@ const NO_RESOLUTIONS: Resolutions = Resolutions {
     items: [(0, 0); 4],
 };
 
-/// A structure with one template, of the first layer, and with one decode target.
+/// A structure with one template, of spatial and temporal id 0, and with one decode target.
 pub const BLANK: Columns = Columns {
     offset: 0,
     target_count: 1,
@@ -30,8 +30,7 @@ pub const BLANK: Columns = Columns {
     resolutions: NO_RESOLUTIONS,
 };
 
-/// Makes columns valid again after a fault left them half read: the entries that count become those of
-/// [`BLANK`], and the others stay.
+/// Makes columns valid again after a fault left them partly read. The entries that are used become those of [`BLANK`], and the others stay.
 #[inline(never)]
 pub fn mend(out: &mut Columns)
     ensures { IsWhole out.new }

@@ -5,7 +5,7 @@ ghost use Rattle.std.specs.Prelude.{◌≤◌};
 use crate::layer::Layer;
 use sfu_base::Dti;
 
-/// A template's distances to the frames that it refers to. Only the first `count` items count.
+/// A template's distances to the frames that it refers to. Only the first `count` items are used.
 #[derive(Clone, Copy, Debug)]
 pub struct Distances {
     pub count: u8,
@@ -13,7 +13,7 @@ pub struct Distances {
     ghost within: { count ≤ 16 },
 }
 
-/// The width and height of each spatial id in pixels, from id 0 on. `count` is 0 where the structure has no resolutions.
+/// The width and height of each spatial id in pixels, from id 0 on. `count` is 0 if the structure has no resolutions.
 #[derive(Clone, Copy, Debug)]
 pub struct Resolutions {
     pub count: u8,
@@ -21,8 +21,8 @@ pub struct Resolutions {
     ghost within: { count ≤ 4 },
 }
 
-/// The fields of a structure. Only the first entries of each array count: `template_count` where each template has an entry,
-/// `target_count` where each decode target has one, and `chain_count` where each chain has one.
+/// The fields of a structure. Only the first entries of each array are used: `template_count` entries if the index is a template,
+/// `target_count` if it is a decode target, and `chain_count` if it is a chain.
 #[derive(Clone, Copy, Debug)]
 pub struct Columns {
     pub offset: u8,
@@ -33,7 +33,7 @@ pub struct Columns {
     pub indications: [[Dti; 32]; 64],
     pub distances: [Distances; 64],
     pub links: [[u8; 32]; 64],
-    /// The chain that protects each decode target. The entries count only where there are chains.
+    /// For each decode target, the index of the chain that protects it. The entries are used only if there are chains.
     pub guards: [u8; 32],
     pub resolutions: Resolutions,
 }

@@ -106,7 +106,7 @@ fn same_fields(a: &Columns, b: &Columns) -> bool
         )
 }
 
-/// Whether all entries that count are equal.
+/// Whether all used entries are equal.
 pub fn same_columns(a: &Columns, b: &Columns) -> bool
     requires a { IsWhole a.now }
     requires b { IsWhole b.now }

@@ -1,6 +1,6 @@
 use thiserror::Error;
 
-/// Why bits aren't a template structure: the first fault from left to right.
+/// The reason why some bits aren't a template structure. The reported fault is the first one from left to right.
 #[derive(Clone, Copy, Debug, PartialEq, Eq, Error)]
 pub enum StructureFault {
     /// Fewer bits are left than the next field needs.

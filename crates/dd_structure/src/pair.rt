@@ -18,7 +18,7 @@ fn is_present_to(indications: &[Dti], target: u8) -> bool
     }
 }
 
-/// The template's layer, if the template is present in the target; else `None`.
+/// The template's layer if the template is present in the target, otherwise `None`.
 fn layer_if(is_there: bool, layer: Layer) -> Option<Wish>
     ensures { result ≡ layer_where is_there layer }
 {
@@ -32,7 +32,7 @@ fn layer_if(is_there: bool, layer: Layer) -> Option<Wish>
     }
 }
 
-/// The greater spatial id and the greater temporal id of the two.
+/// The greater of the two spatial ids, and the greater of the two temporal ids.
 fn join(a: Option<Wish>, b: Option<Wish>) -> Option<Wish>
     ensures { result ≡ joined a b }
 {
@@ -47,8 +47,8 @@ fn join(a: Option<Wish>, b: Option<Wish>) -> Option<Wish>
 }
 
 impl Structure {
-    /// The greatest spatial id and the greatest temporal id over the templates that are present in a decode target.
-    /// `None` where no template is present, as for a target past the last.
+    /// The greatest spatial id and the greatest temporal id of the templates that are present in a decode target. `None` if no template is
+    /// present in it, or if there is no such target.
     pub fn pair(&self, target: u8) -> Option<Wish>
         ensures { result ≡ pair_of self.now target }
     {

@@ -1,4 +1,4 @@
-//! Reads a structure, field by field in the order of the bits.
+//! Reads a structure field by field, in the order of the bits.
 
 pub mod chains;
 mod distances;
@@ -24,8 +24,8 @@ use crate::reading::layers::fill_layers;
 use crate::reading::resolutions::resolutions;
 use dd_bits::BitReader;
 
-/// Reads a structure into `out`, in place of what was there, or returns the first fault. After a fault the reader may have moved on, and
-/// `out` may contain a part of a structure.
+/// Reads a structure into `out`, which is overwritten, or returns the first fault. After a fault the reader may have moved on, and `out` may
+/// have a part of a structure.
 #[tactic(auto, unfolding(crate::specs::Reading::structure_at))]
 fn fill_columns(bits: &mut BitReader<'_>, out: &mut Columns) -> Result<(), StructureFault>
     ensures read { Gives (λ _. structure_of out.new) result bits.new (structure_at (bits_left bits.old)) }
@@ -47,7 +47,7 @@ fn fill_columns(bits: &mut BitReader<'_>, out: &mut Columns) -> Result<(), Struc
     Ok(())
 }
 
-/// Reads as `fill_columns` does, but after a fault the columns are those of some structure, and the reader is as before.
+/// Like `fill_columns`, but after a fault the columns are those of some valid structure, and the reader is unchanged.
 pub fn fill_whole(bits: &mut BitReader<'_>, out: &mut Columns) -> Result<(), StructureFault>
     ensures read { Gives (λ _. structure_of out.new) result bits.new (structure_at (bits_left bits.old)) }
     ensures unchanged { OnErr result (bits.new ≡ bits.old) }

@@ -7,8 +7,8 @@ use crate::writing::put_columns;
 use dd_bits::{BitReader, BitWriter, NoRoom};
 use std::marker::Model;
 
-/// A template structure (RTP Payload Format For AV1 v1.0, Appendix A, template_dependency_structure). Contracts see its template id
-/// offset, its numbers of decode targets and chains, its templates, the chain that protects each decode target, and the resolutions.
+/// A template structure (RTP Payload Format For AV1 v1.0, Appendix A, template_dependency_structure). Contracts see its template id offset, how
+/// many decode targets and chains it has, its templates, the chain that protects each decode target, and the resolutions.
 #[derive(Debug, Drop)]
 pub struct Structure {
     pub(crate) columns: Columns,
@@ -31,7 +31,7 @@ ghost use Rattle.dd_bits.specs.Reader.{bits_left};
 ghost use Rattle.dd_bits.specs.Sequences.{Gives};
 ghost use Rattle.dd_structure.specs.Reading.{some_structure_at};
 
-/// Does what [`Structure::read_into`] does, for an `out` without a structure: stores a blank one there, then reads over it.
+/// Does what [`Structure::read_into`] does if `out` has no structure: puts a blank one into `out`, then overwrites it by reading.
 #[tactic(auto, unfolding(crate::specs::Reading::some_structure_at))]
 #[inline(never)]
 fn read_anew(bits: &mut BitReader<'_>, out: &mut Option<Structure>) -> Result<(), StructureFault>
@@ -57,7 +57,7 @@ impl Structure {
     ghost use Rattle.dd_structure.specs.Reading.{structure_at, some_structure_at};
     ghost use Rattle.dd_structure.specs.Spelling.{structure_bits, IsWellFormed};
 
-    /// Reads the structure that the bits begin with, or returns the first fault from left to right. After a fault the reader is as before.
+    /// Reads the structure at the start of the bits, or returns the first fault from left to right. After a fault the reader is unchanged.
     pub fn read(bits: &mut BitReader<'_>) -> Result<Structure, StructureFault>
         ensures read { Gives (λ s. s) result bits.new (structure_at (bits_left bits.old)) }
         ensures unchanged { OnErr result (bits.new ≡ bits.old) }
@@ -67,8 +67,8 @@ impl Structure {
         Ok(Structure { columns })
     }
 
-    /// Reads as [`Structure::read`] does, but replaces the contents of `out`; after a fault `out` is `None`. A structure takes 5.4 KB: if
-    /// `out` already contains one, the new one is read over it, and nothing is cleared or moved.
+    /// Like [`Structure::read`], but replaces the contents of `out`. After a fault `out` is `None`. A structure takes 5.4 KB. If `out` already
+    /// has one, the new structure overwrites it, and nothing is cleared or moved.
     #[tactic(auto, unfolding(crate::specs::Reading::some_structure_at))]
     pub fn read_into(
         bits: &mut BitReader<'_>,
@@ -90,7 +90,7 @@ impl Structure {
         }
     }
 
-    /// Appends the bits of the structure. Returns `NoRoom` if the writer would then contain more than 2,040 bytes; it is then as before.
+    /// Appends the bits of the structure. Returns `NoRoom` and leaves the writer unchanged if the bits would exceed 2,040 bytes.
     pub fn write(&self, out: &mut BitWriter) -> Result<(), NoRoom>
         ensures put { Puts result out.old out.new (structure_bits self.now) }
         ensures unchanged { OnErr result (out.new ≡ out.old) }
@@ -106,7 +106,7 @@ impl Structure {
         }
     }
 
-    /// Whether two structures are equal in all that contracts see of them.
+    /// Whether two structures are equal in everything that contracts see.
     pub fn same(&self, other: &Structure) -> bool
         ensures { IsTrue result ↔ (self.now ≡ other.now) }
     {
@@ -122,7 +122,7 @@ impl Structure {
         }
     }
 
-    /// A lemma, which does nothing: each number of a structure is in the range of its field, and its counts agree with one another.
+    /// A lemma, which does nothing at run time: each number of a structure is in the range of its field, and its counts agree with one another.
     pub fn is_well_formed(&self)
         ensures { IsWellFormed self.now }
     {

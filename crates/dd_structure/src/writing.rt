@@ -1,4 +1,4 @@
-//! Writes a structure, field by field in the order of the bits.
+//! Writes a structure field by field, in the order of the bits.
 
 pub mod chains;
 mod distances;

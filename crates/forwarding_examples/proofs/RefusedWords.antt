@@ -1,4 +1,4 @@
--- What the definitions in the laws reject.
+-- Examples that the definitions in the laws reject.
 use Rattle.std.proofs.Common.{◌≡◌, ◌⊎◌, inl, inr, ℕ, List, [], ◌∷◌, arith, true, false, refl, ap, ◌+◌, subst}
 use Rattle.std.specs.List.{list_any}
 use Rattle.forwarding_model.specs.forwarding.Standing.{is_key}
@@ -24,7 +24,7 @@ paths_fall h = let lt = h.1 in omega arith
 pub others_are_no_causes : OthersAreNoCauses
 others_are_no_causes h = let e = h.0 in cc
 
--- a frame that is decodable is there, and has a key frame
+-- a decodable frame is in the list, and the list has a key frame
 record Is (frames : List FrameMeaning) (f : FrameMeaning) : Type 0 where
   there : IsMember f frames
   keyed : (f.key ≡ true) ⊎ (list_any is_key frames ≡ true)

@@ -1,4 +1,4 @@
--- All facts on which the laws rest hold for the examples' format.
+-- The format of the examples fulfils all assumptions of the laws.
 use Rattle.std.proofs.Common.{◌≡◌, ◌-◌, ◌<◌, ◌≤◌, ◌^◌, ℕ, arith, Bool, true, false, List, refl, sym, subst, ap, ◌∙◌, cond, true≢false, length, get_or}
 use Rattle.std.specs.Prelude.{◌==◌, nat_lt, nat_le, slice_index}
 use Rattle.std.specs.List.{list_all}
@@ -57,7 +57,7 @@ in_bounds force fields d bounds e =
       mask = λ s m by has. below_all s m (mask_fits fields.mask m (ltb-true fields.mask 5 b.0) has);
     })
 
--- a descriptor that can be read has its fields in range, and they are those that it was read from
+-- a descriptor that can be read has its fields in range, and they are the fields from which it was read
 record IsWorked (force : Option ℕ) (rest : List ℕ) (d : Descriptor ℕ) : Type 0 where
   fields : WorkedFields
   found : worked_fields rest ≡ Some fields

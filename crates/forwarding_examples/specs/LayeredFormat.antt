@@ -1,7 +1,7 @@
 -- A second format for the examples, with templates and chains. A packet's rest is a list of numbers as in `WorkedFormat`, except that a
--- template comes before the distances, which are the frame's own if there are any. Structure 1 has two spatial layers: target 0 has the
--- layers (1, 0) and is protected by chain 1; target 1 has the layers (0, 0) and is protected by chain 0. Any other structure has one
--- target, of the layers (0, 0), and one chain. Own words. All facts on which the laws rest hold for it.
+-- template precedes the distances. If there are distances, they are the frame's own. Structure 1 has two spatial layers: target 0 has the
+-- layers (1, 0) and is protected by chain 1; target 1 has the layers (0, 0) and is protected by chain 0. Any other structure has one target, of
+-- the layers (0, 0), and one chain. Own definitions. The format fulfils all assumptions of the laws.
 use Rattle.std.specs.Prelude.{◌^◌, ℕ, List, [], ◌∷◌, if◌then◌else◌, Bool, ◌==◌, ◌&&◌, nat_lt, nat_le, length, slice_get}
 use Rattle.std.specs.List.{list_all}
 use Rattle.std.specs.declared.option.Option.{Option}

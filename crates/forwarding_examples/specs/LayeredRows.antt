@@ -1,5 +1,5 @@
--- Histories of layered tracks, from packets that come or are lost to causes and forwarded packets. They are read with the format of
--- `LayeredFormat`, were worked out by hand, and are checked by computation. Items and histories have the newest first.
+-- Histories of layered tracks: packets that arrive or are lost, and the resulting causes and forwarded packets. The packets are read with the
+-- format of `LayeredFormat`. The results were worked out by hand, and are checked by computation. Items and histories have the newest first.
 use Rattle.std.specs.Prelude.{◌≡◌, ℕ, List, [], ◌∷◌, Bool, true, false, map}
 use Rattle.std.specs.declared.option.Option.TheVariants.{None, Some}
 use Rattle.sfu_base.specs.declared.frame.Verdict.{Verdict}
@@ -24,7 +24,7 @@ subscriber = record { ssrc = 2; first = 10; wish = record { spatial = 1; tempora
 abbrev pub late_subscriber : Subscriber
 late_subscriber = record { ssrc = 3; first = 0; wish = record { spatial = 0; temporal = 0 } }
 
--- what happens to a subscriber that joined before all of these, with one call for each item
+-- the history of a subscriber that joined before all of these items, with one call for each item
 abbrev pub released : List Item → List Entry
 released [] = Joined 1 subscriber ∷ []
 released (item ∷ past) = Released (item ∷ []) ∷ released past
@@ -53,7 +53,7 @@ BrokenChain = causes_in broken_chain (1 ∷ 2 ∷ 3 ∷ 4 ∷ 5 ∷ []) ≡ Pass
 abbrev pub BrokenChainSent : Type 0
 BrokenChainSent = told broken_chain ≡ (10, true) ∷ (11, true) ∷ []
 
--- ---- the upper layer is lost: frame 2. Frame 3 opens the lower target, and ends the picture for the subscriber
+-- ---- the upper layer, frame 2, is lost: frame 3 opens the lower target, and ends the picture for the subscriber
 
 abbrev pub upper_lost : List (Event ℕ)
 upper_lost =
@@ -66,7 +66,7 @@ UpperLost = causes_in upper_lost (3 ∷ 4 ∷ 5 ∷ 6 ∷ []) ≡ Passed ∷ Not
 abbrev pub UpperLostSent : Type 0
 UpperLostSent = told upper_lost ≡ (10, false) ∷ (11, true) ∷ (12, false) ∷ (13, true) ∷ []
 
--- ---- the mask takes the upper target away at frame 3, which then ends the picture; number 4 was never made
+-- ---- the mask of frame 3 lacks the upper target, so frame 3 ends the picture; no frame has the number 4
 
 abbrev pub MaskSent : Type 0
 MaskSent =

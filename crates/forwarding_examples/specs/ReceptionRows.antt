@@ -1,4 +1,4 @@
--- More packets at a strict receiver: where it complains, and about what. They were worked out by hand, and are checked by computation.
+-- More packets at a strict receiver: at which packet it complains, and about what. The results were worked out by hand, and are checked by computation.
 use Rattle.std.specs.Prelude.{◌≡◌, ℕ, List, [], ◌∷◌, replicate}
 use Rattle.std.specs.declared.option.Option.{Option}
 use Rattle.std.specs.declared.option.Option.TheVariants.{None, Some}
@@ -25,8 +25,8 @@ heard came = record {
 abbrev pub complains : Complaint → ℕ → ℕ → Heard
 complains complaint packets frames = record { complaint = Some complaint; packets = packets; frames = frames }
 
--- inside a frame each packet is judged when it comes, not at the frame's end: another number, a broken join, a second start, a broken
--- payload
+-- inside a frame, each packet is judged when it arrives, not at the frame's end: another number, elements that don't join, a second start, a
+-- broken payload
 abbrev pub OtherNumberAtOnce : Type 0
 OtherNumberAtOnce = heard (read_from 10 (key_rest 1 ∷ first_rest 2 ∷ middle_rest 3 ∷ [])) ≡ complains Complaint.NotWhole 2 1
 
@@ -51,11 +51,11 @@ ReferenceAtTheEnd =
 abbrev pub FirstReference : Type 0
 FirstReference = heard (read_from 10 (key_rest 1 ∷ (1 ∷ 1 ∷ 5 ∷ 0 ∷ 0 ∷ 0 ∷ 0 ∷ 2 ∷ 4 ∷ 3 ∷ []) ∷ [])) ≡ complains (Complaint.MissingReference 5 2) 1 1
 
--- a reference at the greatest distance that there is
+-- a reference at the greatest possible distance
 abbrev pub FarthestReference : Type 0
 FarthestReference = heard (read_from 10 (key_rest 1 ∷ frame_rest 4097 4096 ∷ [])) ≡ record { complaint = None; packets = 2; frames = 2 }
 
--- bytes that aren't RTP, as the first that come; and a packet without a descriptor or a payload
+-- bytes that aren't RTP before any packet; and a packet without a descriptor or a payload
 abbrev pub NotRtpFirst : Type 0
 NotRtpFirst = heard (None ∷ []) ≡ complains Complaint.Unread 0 0
 
@@ -72,7 +72,7 @@ LongKeyFrameAccepted =
 abbrev pub OpenEndFirst : Type 0
 OpenEndFirst = heard (read_from 10 (key_rest 1 ∷ (1 ∷ 1 ∷ 3 ∷ 0 ∷ 0 ∷ 0 ∷ 1 ∷ 1 ∷ []) ∷ [])) ≡ complains Complaint.NotWhole 1 1
 
--- and a broken payload, or another structure, is reported before a frame that isn't whole
+-- a broken payload or another structure is reported before a frame that isn't whole
 abbrev pub BrokenPayloadFirst : Type 0
 BrokenPayloadFirst =
     heard (read_from 10 (key_rest 1 ∷ first_rest 2 ∷ (1 ∷ 1 ∷ 3 ∷ 0 ∷ 0 ∷ 3 ∷ 0 ∷ 2 ∷ []) ∷ [])) ≡ complains Complaint.Unread 2 1
@@ -84,7 +84,7 @@ OtherStructureFirst = heard (read_from 10 (key_rest 1 ∷ (0 ∷ 1 ∷ 2 ∷ 8 �
 abbrev pub StructureWithoutKey : Type 0
 StructureWithoutKey = heard (read_from 10 ((1 ∷ 1 ∷ 2 ∷ 7 ∷ 0 ∷ 0 ∷ 0 ∷ 1 ∷ []) ∷ [])) ≡ complains Complaint.Unread 0 0
 
--- a complaint has the 16 bits of the frame number
+-- a complaint has the frame number in 16 bits
 abbrev pub WrappedFrameNumber : Type 0
 WrappedFrameNumber = heard (read_from 10 (key_rest 65535 ∷ frame_rest 1 1 ∷ [])) ≡ complains (Complaint.MissingReference 1 1) 1 1
 

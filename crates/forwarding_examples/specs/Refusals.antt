@@ -1,6 +1,5 @@
--- What the definitions in the laws reject, if they are only in conclusions, and what they accept, if they are only in assumptions: without
--- these rows such a definition could become weaker, or narrower, and no check would fail.
--- Own statements, over small timelines that `Rows` has too.
+-- Examples that definitions in the laws reject or accept. A definition that occurs only in conclusions could become weaker, and one that occurs
+-- only in assumptions narrower, and without these examples no check would fail. Own statements, over small timelines that are also in `Rows`.
 use Rattle.std.specs.Prelude.{◌≡◌, ◌==◌, ℕ, List, [], ◌∷◌, if◌then◌else◌, length}
 use Rattle.sfu_base.specs.declared.frame.FrameMeaning.{FrameMeaning}
 use Rattle.sfu_base.specs.declared.frame.Dti.TheVariants.{Required, Switch}
@@ -25,7 +24,7 @@ use Rattle.forwarding_laws.specs.histories.HistoryWords.{NoneJoins}
 abbrev pub step : ℕ → Verdict → Step
 step number verdict = record { number = number; verdict = verdict }
 
--- no path is empty, ends too early, goes on past a root, names another frame than the next, or has numbers that don't fall
+-- no path is empty, ends too early, continues after a root, names a frame other than the next step's, or has numbers that don't fall
 abbrev pub EmptyIsNoPath : Type 0
 EmptyIsNoPath = IsPath [] → ⊥
 
@@ -93,16 +92,17 @@ plain_frame key number refs =
       refs = refs;
     }
 
--- frame 3 isn't decodable without frame 2, to which it refers; a frame without references isn't without a key frame; nor is one that isn't there
+-- frame 3 isn't decodable without frame 2, to which it refers; a frame without references isn't decodable without a key frame; a frame that isn't
+-- in the list isn't decodable
 abbrev pub LacksReference : Type 0
 LacksReference = IsDecodable (plain_frame false 3 (1 ∷ []) ∷ plain_frame true 1 [] ∷ []) (plain_frame false 3 (1 ∷ [])) → ⊥
 
--- nor is frame 4, which refers to frame 3
+-- frame 4, which refers to frame 3, isn't decodable either
 abbrev pub LacksFartherReference : Type 0
 LacksFartherReference =
     IsDecodable (plain_frame false 4 (1 ∷ []) ∷ plain_frame false 3 (1 ∷ []) ∷ plain_frame true 1 [] ∷ []) (plain_frame false 4 (1 ∷ [])) → ⊥
 
--- nor is a frame with three references of which the middle one is missing
+-- a frame with three references isn't decodable if the middle one is missing
 abbrev pub LacksMiddleReference : Type 0
 LacksMiddleReference =
     IsDecodable (plain_frame false 4 (3 ∷ 2 ∷ 3 ∷ []) ∷ plain_frame true 1 [] ∷ []) (plain_frame false 4 (3 ∷ 2 ∷ 3 ∷ [])) → ⊥
@@ -113,7 +113,7 @@ LacksKeyFrame = IsDecodable (plain_frame false 3 [] ∷ []) (plain_frame false 3
 abbrev pub IsNotThere : Type 0
 IsNotThere = IsDecodable (plain_frame true 1 [] ∷ []) (plain_frame true 2 []) → ⊥
 
--- frame 4 is no switch and no key frame; though all its references passed, it is no restart
+-- frame 4 is neither a switch nor a key frame, so it isn't a restart, although all its references passed
 abbrev pub no_restart : FrameMeaning
 no_restart = plain_frame false 4 (3 ∷ [])
 
@@ -123,11 +123,11 @@ after_key = standing {S = ℕ} (layers_wish 1 0) (key_a 1 1 ∷ [])
 abbrev pub OthersAreNoRestart : Type 0
 OthersAreNoRestart = IsRestart after_key no_restart → ⊥
 
--- nor is a key frame that refers to a frame that didn't pass
+-- a key frame that refers to a frame that didn't pass isn't a restart
 abbrev pub IncompleteIsNoRestart : Type 0
 IncompleteIsNoRestart = IsRestart after_key (plain_frame true 4 (2 ∷ [])) → ⊥
 
--- nor a switch for a target that it doesn't open: a frame of the lower layer is one for target 1, and target 0, which is better, is open
+-- a switch for a target that it doesn't open isn't a restart: a frame of the lower layer is a switch for target 1, but target 0, which is better, is open
 abbrev pub after_upper : Standing
 after_upper = standing {S = ℕ} (layers_wish 1 0) (upper_c 2 1 1 (1 ∷ []) ∷ key_c 1 1 ∷ [])
 
@@ -154,16 +154,16 @@ lower_meaning =
 abbrev pub SwitchesMustOpen : Type 0
 SwitchesMustOpen = IsRestart after_upper lower_meaning → ⊥
 
--- a chain whose frame didn't pass isn't linked
+-- a target isn't linked if the frame that its chain names didn't pass
 abbrev pub LostLinkIsNoLink : Type 0
 LostLinkIsNoLink = IsLinked (λ d. false) (record lower_meaning { links = 1 ∷ 1 ∷ [] }) 0 1 → ⊥
 
--- also where there is one chain, and the link leads to the opening frame itself
+-- this also holds if there is one chain, and the link names the opening frame itself
 abbrev pub LinkToTheOpeningCounts : Type 0
 LinkToTheOpeningCounts = IsLinked (λ d. false) (record lower_meaning { chain_count = 1; guards = 0 ∷ 0 ∷ []; links = 1 ∷ [] }) 0 2 → ⊥
 
--- so a target that was open doesn't stay where its link is lost; a frame that opens nothing leaves no other target open, and one that opens
--- a target no other opening frame than itself; and a closed target is none to pass in
+-- A target that was open doesn't stay open if its link is lost. A frame that opens nothing leaves no other target open. A frame that opens a
+-- target is its opening frame. No frame passes in a closed target.
 abbrev pub LostLinkIsNotKept : Type 0
 LostLinkIsNotKept =
     IsOpenAndLinked (λ d. false) true (layers_wish 1 0) (record lower_meaning { links = 1 ∷ 1 ∷ [] }) (Open 0 1) (Open 0 1) → ⊥
@@ -177,7 +177,7 @@ OpenedIsOpenFromThere = IsOpenAndLinked (λ d. true) true (layers_wish 1 0) lowe
 abbrev pub ClosedIsNotOpen : Type 0
 ClosedIsNotOpen = IsOpenAndLinked (λ d. true) true (layers_wish 1 0) no_restart (Closed (NotOpened 1)) (Closed (NotOpened 1)) → ⊥
 
--- `EachFrameSince` includes each frame that came since
+-- `EachFrameSince` includes each frame of the newest part
 abbrev pub FramesSinceCount : Type 0
 FramesSinceCount = EachFrameSince {S = ℕ} (λ before later. ⊥) (key_a 1 1 ∷ []) [] → ⊥
 
@@ -188,12 +188,12 @@ abbrev pub FramesBehindEventsCount : Type 0
 FramesBehindEventsCount =
     EachFrameSince {S = ℕ} (λ before later. ⊥) (Take ∷ WishChange (layers_wish 0 0) ∷ PlainPacket (packet true) ∷ key_a 1 1 ∷ []) [] → ⊥
 
--- and for each it sees exactly what came before that frame
+-- for each frame, it sees exactly the events before that frame
 abbrev pub SinceLooksBefore : Type 0
 SinceLooksBefore =
     EachFrameSince {S = ℕ} (λ before later. before ≡ Take ∷ key_a 1 1 ∷ []) (Take ∷ key_a 3 2 ∷ Take ∷ []) (key_a 1 1 ∷ [])
 
--- if others join, and packets, wishes and requests come, nobody with this number joins; if this number joins, somebody does
+-- `NoneJoins` holds if only other subscribers join, and packets, wishes and requests come; it doesn't hold if this number joins
 abbrev pub OthersMayJoin : Type 0
 OthersMayJoin =
     NoneJoins 1

@@ -1,6 +1,6 @@
--- Small timelines whose verdicts and outgoing packets were worked out by hand. They are checked by computation.
--- Structure A has one decode target and one chain; each of its frames that is no key frame refers to the frame before it. B is A, except
--- that its frames aren't switches. C has two targets: target 0 has layers (1, 0) and chain 1, target 1 has layers (0, 0) and chain 0.
+-- Small timelines whose verdicts and outgoing packets were worked out by hand. They are checked by computation. Structure A has one decode
+-- target and one chain; each of its frames, except for key frames, refers to the frame before it. B is A, except that its frames aren't
+-- switches. C has two targets: target 0 has layers (1, 0) and chain 1, target 1 has layers (0, 0) and chain 0.
 use Rattle.std.specs.Prelude.{◌≡◌, ℕ, List, [], ◌∷◌, ◌++◌, Bool, true, false, map, length, replicate}
 use Rattle.std.specs.declared.option.Option.TheVariants.{None, Some}
 use Rattle.sfu_base.specs.declared.frame.Dti.{Dti}
@@ -74,7 +74,7 @@ two_targets number start epoch key mask spatial upper lower link_lower link_uppe
 abbrev pub key_c : (number epoch : ℕ) → Event ℕ
 key_c number epoch = two_targets number number epoch true 3 0 Required Switch 0 0 [] false
 
--- the lower layer, which refers two frames back, and the upper layer above it, alone or with the upper layer two frames before
+-- A frame of the lower layer refers two frames back. A frame of the upper layer refers to it alone, or also to the upper layer two frames before.
 abbrev pub lower_c : (number start epoch mask : ℕ) → Event ℕ
 lower_c number start epoch mask = two_targets number start epoch false mask 0 Required Switch 2 1 (2 ∷ []) false
 
@@ -106,7 +106,7 @@ BrokenChainCauses = map (cause (layers_wish 1 0) broken_chain) (1 ∷ 2 ∷ 3 �
 abbrev pub BrokenChainNumbers : Type 0
 BrokenChainNumbers = sequence_numbers (outgoing send_marked joined_at_10 broken_chain) ≡ 10 ∷ 11 ∷ []
 
--- frame 3 has a broken link and lacks its reference; frame 4 has no link, and all its references passed, but it is no restart
+-- frame 3 has a broken link and lacks its reference; frame 4 has no link, and all its references passed, but it isn't a restart
 abbrev pub broken_link : List (Event ℕ)
 broken_link =
     one_target 4 1 1 false Required 0 (3 ∷ []) (packet true ∷ [])
@@ -117,7 +117,7 @@ broken_link =
 abbrev pub BrokenLinkCauses : Type 0
 BrokenLinkCauses = map (cause (layers_wish 1 0) broken_link) (3 ∷ 4 ∷ []) ≡ Reference 2 ∷ Link 3 2 ∷ []
 
--- such a frame passes if no broken link was seen
+-- the same frame passes if there was no broken link before it
 abbrev pub UnlinkedCause : Type 0
 UnlinkedCause = cause (layers_wish 1 0) (one_target 4 1 1 false Required 0 (3 ∷ []) (packet true ∷ []) ∷ key_a 1 1 ∷ []) 4 ≡ Passed
 
@@ -173,7 +173,7 @@ masked_upper =
 abbrev pub MaskMarkers : Type 0
 MaskMarkers = markers (outgoing send_marked joined_at_10 masked_upper) ≡ false ∷ true ∷ true ∷ true ∷ []
 
--- ---- the mask of frame 2 lacks the only target; that of frame 3 has it again, but frame 3 is no switch and opens nothing
+-- ---- the mask of frame 2 lacks the only target; the mask of frame 3 has it again, but frame 3 isn't a switch and opens nothing
 
 abbrev pub masked : (number mask : ℕ) → Dti → Event ℕ
 masked number mask dti =
@@ -204,7 +204,7 @@ MaskedCauses =
     map (cause (layers_wish 1 0) (masked 5 1 Required ∷ masked 4 1 Switch ∷ masked 3 1 Required ∷ masked 2 0 Switch ∷ key_a 1 1 ∷ [])) (2 ∷ 3 ∷ 4 ∷ 5 ∷ [])
     ≡ NotOfTarget None ∷ Unopened 2 ∷ Passed ∷ Passed ∷ []
 
--- ---- an intact upper target stays open where frame 3 could open the lower one, so frame 3 doesn't end the picture
+-- ---- an intact upper target stays open although frame 3 could open the lower one, so frame 3 doesn't end the picture
 
 abbrev pub intact_upper : List (Event ℕ)
 intact_upper = lower_c 3 1 1 3 ∷ upper_c 2 1 1 (1 ∷ []) ∷ key_c 1 1 ∷ []
@@ -240,7 +240,7 @@ WishCauses = map (cause (layers_wish 1 0) (wishes (1 ∷ []))) (1 ∷ 2 ∷ 3 �
 abbrev pub WishMarkers : Type 0
 WishMarkers = markers (outgoing send_marked joined_at_10 (wishes (1 ∷ []))) ≡ false ∷ true ∷ true ∷ true ∷ true ∷ []
 
--- frame 4 came and didn't pass
+-- frame 4 arrived and didn't pass
 abbrev pub WishCauseUnpassed : Type 0
 WishCauseUnpassed = cause (layers_wish 1 0) (wishes (1 ∷ 2 ∷ [])) 6 ≡ NotOfTarget (Some 1)
 
@@ -262,7 +262,7 @@ FullCauses = map (cause (layers_wish 1 0) (full_queue [])) (512 ∷ 513 ∷ []) 
 abbrev pub FullTakenCauses : Type 0
 FullTakenCauses = map (cause (layers_wish 1 0) (full_queue (Take ∷ []))) (512 ∷ 513 ∷ []) ≡ Passed ∷ Full 512 1 ∷ []
 
--- ---- behind and unopened: frame 4 refers to frame 2, which is before the key frame 3; a subscriber that joined after frame 1
+-- ---- the verdicts behind and unopened: frame 4 refers to frame 2, which is before key frame 3; and a subscriber that joined after frame 1
 
 abbrev pub behind : List (Event ℕ)
 behind =
@@ -277,7 +277,7 @@ LateJoinCauses = map (cause (layers_wish 0 0) behind) (1 ∷ 2 ∷ 3 ∷ []) ≡
 abbrev pub BehindCause : Type 0
 BehindCause = cause (layers_wish 1 0) (behind ++ key_a 1 1 ∷ []) 4 ≡ Behind 2 3
 
--- ---- a packet was waited for too long: frame 2 was torn, so frame 3 lacks its reference
+-- ---- a missing packet was given up: frame 2 was torn, so frame 3 lacks its reference
 
 abbrev pub torn : List (Event ℕ)
 torn = one_target 3 1 1 false Switch 1 (1 ∷ []) (packet true ∷ []) ∷ key_a 1 1 ∷ []
@@ -285,7 +285,7 @@ torn = one_target 3 1 1 false Switch 1 (1 ∷ []) (packet true ∷ []) ∷ key_a
 abbrev pub HoldCauses : Type 0
 HoldCauses = map (cause (layers_wish 1 0) torn) (1 ∷ 2 ∷ 3 ∷ []) ≡ Passed ∷ Hole (Some 1) 3 ∷ Reference 2 ∷ []
 
--- ---- a plain track: two packets, each taken after it came, and the second is retransmitted
+-- ---- a plain track: two packets, each taken right after it was queued; the second is retransmitted
 
 abbrev pub plain_taken : List (Event ℕ)
 plain_taken = Take ∷ PlainPacket (packet true) ∷ Take ∷ PlainPacket (packet false) ∷ []
@@ -293,7 +293,7 @@ plain_taken = Take ∷ PlainPacket (packet true) ∷ Take ∷ PlainPacket (packe
 abbrev pub PlainResend : Type 0
 PlainResend = resent send_marked joined_at_10 plain_taken 11 ≡ Some (record { sequence_number = 11; ssrc = 2; marker = true; rest = [] })
 
--- ---- which causes are known, and how far down a hole is seen: a number is too old if it is 4,096 or more below the newest
+-- ---- which causes are known, and the frame below a hole: a number is too old if it is 4,096 or more below the newest
 
 abbrev pub AskedNumbers : Type 0
 AskedNumbers =

@@ -1,6 +1,6 @@
--- Timelines that show single rules of selection, causes and markers, worked out by hand. They are checked by computation. Each has another
--- value if its rule is changed. Structures A and C are those of `Rows`.
--- Structure D has four targets with layers (1, 1), (1, 0), (0, 1) and (0, 0), which chains 1, 1, 0 and 0 protect.
+-- Timelines that show single rules of selection, causes and markers. The results were worked out by hand, and are checked by computation. Each
+-- has another result if its rule is changed. Structures A and C are those of `Rows`. Structure D has four targets with layers (1, 1), (1, 0),
+-- (0, 1) and (0, 0), which chains 1, 1, 0 and 0 protect.
 use Rattle.std.specs.Prelude.{◌≡◌, ℕ, List, [], ◌∷◌, ◌++◌, Bool, true, false, map, length, replicate}
 use Rattle.std.specs.declared.option.Option.TheVariants.{None, Some}
 use Rattle.sfu_base.specs.declared.frame.Dti.{Dti}
@@ -16,8 +16,8 @@ use Rattle.forwarding_examples.specs.Rows.{broken_chain, layers_wish, packet, on
 
 -- ---- opening
 
--- Frame 3 passes and opens nothing, so frame 1 stays the opening frame. Frame 4 links to frame 2, which came between frames 1 and 3 and
--- was lost.
+-- Frame 3 passes and opens nothing, so frame 1 stays the opening frame. Frame 4 links to frame 2, which lies between frames 1 and 3 and was
+-- lost.
 abbrev pub PassingOpensNothing : Type 0
 PassingOpensNothing =
     map
@@ -31,7 +31,7 @@ PassingOpensNothing =
 
 -- ---- reasons
 
--- Frame 3 closes the target because of its link. Key frame 5 begins another epoch, but the queue is full, so 6 is unopened since 5.
+-- Frame 3 closes the target because of its link. Key frame 5 begins another epoch, but the queue is full, so the verdict on frame 6 is unopened since frame 5.
 abbrev pub NewEpochGivesTheReason : Type 0
 NewEpochGivesTheReason =
     map
@@ -82,7 +82,7 @@ four_targets number key mask dtis links refs =
 abbrev pub key_d : Event ℕ
 key_d = four_targets 0 true 15 (Required ∷ Required ∷ Switch ∷ Switch ∷ []) (0 ∷ 0 ∷ []) []
 
--- of the layer (0, 1): target 2 can do without it, and neither target of temporal id 0 has it
+-- a frame of the layer (0, 1), which is discardable for target 2 and not present in the targets of temporal id 0
 abbrev pub odd_d : Event ℕ
 odd_d = four_targets 2 false 15 (Required ∷ NotPresent ∷ Discardable ∷ NotPresent ∷ []) (2 ∷ 1 ∷ []) (2 ∷ [])
 
@@ -94,7 +94,7 @@ TemporalWishIsKept = cause (layers_wish 0 0) (odd_d ∷ key_d ∷ []) 2 ≡ NotO
 abbrev pub DiscardableFramesPass : Type 0
 DiscardableFramesPass = cause (layers_wish 0 1) (odd_d ∷ key_d ∷ []) 2 ≡ Passed
 
--- and no switch: it doesn't open target 2 for a wish that grew
+-- a discardable frame isn't a switch: it doesn't open target 2 for a higher wish
 abbrev pub DiscardableFramesOpenNothing : Type 0
 DiscardableFramesOpenNothing = cause (layers_wish 0 0) (odd_d ∷ WishChange (layers_wish 0 1) ∷ key_d ∷ []) 2 ≡ NotOfTarget (Some 3)
 
@@ -104,10 +104,10 @@ FourthBitIsTargetThree =
     cause (layers_wish 1 1) (four_targets 2 false 8 (Required ∷ Required ∷ Switch ∷ Switch ∷ []) (2 ∷ 1 ∷ []) (2 ∷ []) ∷ key_d ∷ []) 2
     ≡ Passed
 
--- ---- the order of verdicts where no target is open
+-- ---- the order of verdicts if no target is open
 
--- A frame that isn't present in the aim, first with a reference that wasn't passed, then with none. That it isn't present decides before
--- the reference, and before the reason.
+-- A frame that isn't present in the aim, first with a reference that wasn't passed, then without one. Its absence decides the verdict before
+-- the reference does, and before the target's reason does.
 abbrev pub AbsenceComesFirst : Type 0
 AbsenceComesFirst =
     cause (layers_wish 0 0) (upper_c 4 1 1 (1 ∷ []) ∷ []) 4 ∷ cause (layers_wish 0 0) (upper_c 4 1 1 [] ∷ []) 4 ∷ []
@@ -150,7 +150,7 @@ GreatestBelowIsTold =
     (one_target 4 1 1 false Switch 0 [] (packet true ∷ []) ∷ one_target 2 1 1 false Switch 0 [] (packet true ∷ []) ∷ key_a 1 1 ∷ []) 3
     ≡ Hole (Some 2) 4
 
--- nine frames came since the oldest one, which keeps its cause
+-- nine frames came after the oldest one, which keeps its cause
 abbrev pub OldFramesKeepTheirCauses : Type 0
 OldFramesKeepTheirCauses =
     map
@@ -176,7 +176,7 @@ FirstNumbers =
 
 -- ---- which of two targets is better
 
--- the mask 6 leaves target 1 of layers (1, 0) and target 2 of layers (0, 1): the spatial layer counts first
+-- the mask 6 leaves target 1 with layers (1, 0) and target 2 with layers (0, 1): the spatial id is compared first
 abbrev pub SpatialComesFirst : Type 0
 SpatialComesFirst =
     cause (layers_wish 1 1)
@@ -222,7 +222,7 @@ BrokenChainPath =
     path (cause (layers_wish 1 0) broken_chain) 4
     ≡ record { number = 4; verdict = Reference 3 } ∷ record { number = 3; verdict = Link 3 2 } ∷ record { number = 2; verdict = Hole (Some 1) 3 } ∷ []
 
--- ---- a target of greater layers is better, also where it has the higher index
+-- ---- a target of greater layers is better, even if it has the higher index
 
 abbrev pub ascending_targets : (greater : Wish) → (number : ℕ) → Bool → (lower upper : Dti) → List ℕ → Event ℕ
 ascending_targets greater number key lower upper refs =
@@ -252,6 +252,6 @@ abbrev pub opened_under : Wish → Verdict
 opened_under wish =
     cause wish (ascending_targets wish 2 false NotPresent Required (1 ∷ []) ∷ ascending_targets wish 1 true Switch Switch [] ∷ []) 2
 
--- of the greater spatial id, or of the same and the greater temporal id
+-- the better target has the greater spatial id, or the same spatial and the greater temporal id
 abbrev pub GreaterLayersFirst : Type 0
 GreaterLayersFirst = opened_under (layers_wish 1 0) ∷ opened_under (layers_wish 0 1) ∷ [] ≡ Passed ∷ Passed ∷ []

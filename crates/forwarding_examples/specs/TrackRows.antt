@@ -1,4 +1,4 @@
--- More packets: frames of a track, the outcomes of marks, and histories. They were worked out by hand, and are checked by computation.
+-- More packets: frames of a track, the outcomes of marks, and histories. The results were worked out by hand, and are checked by computation.
 use Rattle.std.specs.Prelude.{◌≡◌, ℕ, zero, suc, List, [], ◌∷◌, ◌++◌, Bool, true, false, if◌then◌else◌, map, length, replicate}
 use Rattle.std.specs.declared.option.Option.TheVariants.{None, Some}
 use Rattle.std.specs.Option.{option_map}
@@ -39,14 +39,14 @@ ThreeTargets = told (came (1 ∷ 1 ∷ 1 ∷ 9 ∷ 0 ∷ 0 ∷ 0 ∷ []) ∷ [])
 abbrev pub LongKeyFrame : Type 0
 LongKeyFrame = told (came (0 ∷ 1 ∷ 1 ∷ 0 ∷ 0 ∷ 1 ∷ 0 ∷ []) ∷ came (1 ∷ 0 ∷ 1 ∷ 7 ∷ 0 ∷ 0 ∷ 1 ∷ []) ∷ []) ≡ (1 ∷ 2 ∷ 3 ∷ []) ∷ []
 
--- of each frame its epoch, the epoch's start, and whether it is a key frame: a key frame, one that refers to it, and another key frame
+-- for each frame its epoch, the epoch's start, and whether it is a key frame; the frames are a key frame, one that refers to it, and another key frame
 abbrev pub EpochsAndStarts : Type 0
 EpochsAndStarts =
     map (λ (x : Frame ℕ). x.meaning.epoch ∷ x.meaning.start ∷ (if x.meaning.key then 1 else 0) ∷ [])
     (frames_after worked_format (came (key_rest 5) ∷ came (frame_rest 2 1) ∷ came (key_rest 1) ∷ []))
     ≡ (2 ∷ 5 ∷ 1 ∷ []) ∷ (1 ∷ 1 ∷ 0 ∷ []) ∷ (1 ∷ 1 ∷ 1 ∷ []) ∷ []
 
--- the structure in force, in a packet that is no start, makes all targets active again
+-- a packet that isn't a start and carries the structure in force makes all targets active again
 abbrev pub StructureInside : Type 0
 StructureInside =
     told (came (0 ∷ 1 ∷ 2 ∷ 7 ∷ 0 ∷ 1 ∷ 0 ∷ []) ∷ came (1 ∷ 0 ∷ 2 ∷ 0 ∷ 3 ∷ 0 ∷ 1 ∷ 1 ∷ []) ∷ came (key_rest 1) ∷ [])
@@ -93,7 +93,7 @@ PartsOfAFrame =
 abbrev pub ThirdSubscriberMarkers : Type 0
 ThirdSubscriberMarkers = numbers_and_markers (sent_to 3 (joined_as 4 7 1)) ≡ None ∷ None ∷ []
 
--- and the takes of the second are none of the others'
+-- takes of the second subscriber aren't takes of the others
 abbrev pub OnlyTheSecondTook : Type 0
 OnlyTheSecondTook =
     taken send_marked (joined_as 2 65535 1) (timeline worked_format send_marked 1 three_subscribers)
@@ -134,7 +134,7 @@ PlainQueue =
     ∷ []
     ≡ 512 ∷ 513 ∷ []
 
--- a history: what came before the join isn't the subscriber's, and numbers that were given up add nothing
+-- a history: packets before the join aren't the subscriber's, and numbers that were given up add nothing
 abbrev pub plain_history : List Entry
 plain_history =
     Asked 1
@@ -152,7 +152,7 @@ PlainHistory =
 abbrev pub PlainTaken : Type 0
 PlainTaken = map (λ (p : Packet). p.rest) (taken {S = ℕ} send_marked plain_subscriber (plain_timeline send_marked 1 plain_history)) ≡ (5 ∷ []) ∷ []
 
--- of 1,025 packets that were taken the last 1,024 are kept; one more is queued
+-- of 1,025 taken packets, the last 1,024 are kept; one more packet is queued
 abbrev pub all_taken : ℕ → List (Event ℕ)
 all_taken zero = []
 all_taken (suc n) = Take ∷ PlainPacket (plain true n) ∷ all_taken n

@@ -1,6 +1,6 @@
 -- A format for the examples, in which a packet's rest is a list of numbers: start and end bit, frame number, the carried structure or 0 for
--- none, the mask plus one or 0 for none, Z (or 2 for an empty payload, 3 for a broken one), Y, and the distances.
--- Own words. All facts on which the laws rest hold for it, so that the laws are about the packets of the examples too.
+-- none, the mask plus one or 0 for none, Z (or 2 for an empty payload, 3 for a broken one), Y, and the distances. Own definitions. The format
+-- fulfils all assumptions of the laws, so the laws hold for the packets of the examples too.
 use Rattle.std.specs.Prelude.{◌-◌, ℕ, List, [], ◌∷◌, Bool, if◌then◌else◌, ◌==◌, ◌&&◌, nat_lt, nat_le, length}
 use Rattle.std.specs.List.{list_all}
 use Rattle.std.specs.declared.option.Option.{Option}
@@ -10,8 +10,8 @@ use Rattle.forwarding_model.specs.frames.Reading.{Descriptor, DescriptorReading,
 use Rattle.forwarding_model.specs.frames.Reading.DescriptorReading.{NeedsStructure, Faulty, Reads}
 use Rattle.forwarding_model.specs.frames.Reading.Payload.{Empty, Broken, Elements}
 
--- A structure is identified by a number. Structure 9 has a third decode target; each other has two, of the layers (1, 0) and (0, 0). None
--- has a chain.
+-- A structure is identified by a number. Structure 9 has three decode targets; each other structure has two, of the layers (1, 0) and (0, 0).
+-- None has a chain.
 abbrev pub worked_layout : ℕ → Layout
 worked_layout s =
     record {

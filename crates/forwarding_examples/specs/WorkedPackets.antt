@@ -1,5 +1,5 @@
--- Small lists of packets whose frames, and whose complaints at a strict receiver, were worked out by hand. They are checked by computation,
--- and read with the format of `WorkedFormat`.
+-- Small lists of packets, with their frames and a strict receiver's complaints about them. The results were worked out by hand, and are checked
+-- by computation. The packets are read with the format of `WorkedFormat`.
 use Rattle.std.specs.Prelude.{◌≡◌, ◌+◌, ℕ, List, [], ◌∷◌, ◌++◌, false, if◌then◌else◌, map, length, replicate}
 use Rattle.std.specs.declared.option.Option.{Option}
 use Rattle.std.specs.declared.option.Option.TheVariants.{None, Some}
@@ -45,7 +45,7 @@ last_rest number = 0 ∷ 1 ∷ number ∷ 0 ∷ 0 ∷ 1 ∷ 0 ∷ []
 abbrev pub came : List ℕ → Item
 came rest = Arrived (sent_as 0 rest)
 
--- of each frame its number, its count of packets, and its mask; the newest first
+-- for each frame its number, the number of its packets, and its mask; the newest frame first
 abbrev pub told : List Item → List (List ℕ)
 told items = map (λ (x : Frame ℕ). x.meaning.number ∷ length x.packets ∷ x.meaning.mask ∷ []) (frames_after worked_format items)
 
@@ -61,11 +61,11 @@ TornFrame =
     told (came (frame_rest 3 1) ∷ came (last_rest 2) ∷ Missing ∷ came (first_rest 2) ∷ came (key_rest 1) ∷ [])
     ≡ (3 ∷ 1 ∷ 3 ∷ []) ∷ (1 ∷ 1 ∷ 3 ∷ []) ∷ []
 
--- so does a start that comes too early
+-- a start that comes too early tears the frame too
 abbrev pub EarlyStart : Type 0
 EarlyStart = told (came (last_rest 2) ∷ came (frame_rest 3 2) ∷ came (first_rest 2) ∷ came (key_rest 1) ∷ []) ≡ (3 ∷ 1 ∷ 3 ∷ []) ∷ (1 ∷ 1 ∷ 3 ∷ []) ∷ []
 
--- frame numbers wrap, and a key frame's number is above all before
+-- frame numbers wrap, and a key frame's number is above all earlier numbers
 abbrev pub WrappedNumbers : Type 0
 WrappedNumbers =
     told (came (key_rest 5) ∷ came (frame_rest 0 1) ∷ came (key_rest 65535) ∷ [])
@@ -75,7 +75,7 @@ WrappedNumbers =
 abbrev pub StaleNumber : Type 0
 StaleNumber = told (came (frame_rest 4 1) ∷ came (frame_rest 5 1) ∷ came (key_rest 4) ∷ []) ≡ (5 ∷ 1 ∷ 3 ∷ []) ∷ (4 ∷ 1 ∷ 3 ∷ []) ∷ []
 
--- a mask counts from the frame that carries it; a structure without a mask makes all targets active
+-- a mask applies from the frame that carries it; a structure without a mask makes all targets active
 abbrev pub NewMask : Type 0
 NewMask =
     told (came (frame_rest 4 1) ∷ came (1 ∷ 1 ∷ 3 ∷ 0 ∷ 3 ∷ 0 ∷ 0 ∷ 1 ∷ []) ∷ came (frame_rest 2 1) ∷ came (key_rest 1) ∷ [])
@@ -97,21 +97,21 @@ BrokenInside = told (came (last_rest 2) ∷ came (0 ∷ 0 ∷ 2 ∷ 0 ∷ 0 ∷ 
 abbrev pub OtherStructureInside : Type 0
 OtherStructureInside = told (came (last_rest 2) ∷ came (0 ∷ 0 ∷ 2 ∷ 8 ∷ 0 ∷ 1 ∷ 1 ∷ []) ∷ came (first_rest 2) ∷ came (key_rest 1) ∷ []) ≡ (1 ∷ 1 ∷ 3 ∷ []) ∷ []
 
--- a key start takes effect though its payload is broken: number 4 isn't above it, and number 6 is
+-- a key start takes effect although its payload is broken: number 4 isn't above its number, and number 6 is
 abbrev pub BrokenKeyStart : Type 0
 BrokenKeyStart = told (came (frame_rest 6 1) ∷ came (frame_rest 4 1) ∷ came (1 ∷ 1 ∷ 5 ∷ 7 ∷ 0 ∷ 3 ∷ 0 ∷ []) ∷ came (key_rest 1) ∷ [])
     ≡ (6 ∷ 1 ∷ 3 ∷ []) ∷ (1 ∷ 1 ∷ 3 ∷ []) ∷ []
 
--- and though its frame is torn
+-- a key start takes effect although its frame is torn
 abbrev pub TornKeyFrame : Type 0
 TornKeyFrame = told (came (frame_rest 6 1) ∷ came (frame_rest 4 1) ∷ Missing ∷ came (1 ∷ 0 ∷ 5 ∷ 7 ∷ 0 ∷ 0 ∷ 1 ∷ []) ∷ came (key_rest 1) ∷ [])
     ≡ (6 ∷ 1 ∷ 3 ∷ []) ∷ (1 ∷ 1 ∷ 3 ∷ []) ∷ []
 
--- so does a mask
+-- a mask takes effect although the payload is broken
 abbrev pub BrokenMask : Type 0
 BrokenMask = told (came (frame_rest 3 1) ∷ came (1 ∷ 1 ∷ 2 ∷ 0 ∷ 3 ∷ 3 ∷ 0 ∷ 1 ∷ []) ∷ came (key_rest 1) ∷ []) ≡ (3 ∷ 1 ∷ 2 ∷ []) ∷ (1 ∷ 1 ∷ 3 ∷ []) ∷ []
 
--- a packet without a payload says nothing, whether a mask or a key start
+-- a packet without a payload has no effect, even with a mask or a key start in its descriptor
 abbrev pub PaddingSaysNothing : Type 0
 PaddingSaysNothing = told (came (frame_rest 2 1) ∷ came (1 ∷ 1 ∷ 5 ∷ 8 ∷ 0 ∷ 2 ∷ 0 ∷ []) ∷ came (0 ∷ 0 ∷ 1 ∷ 0 ∷ 3 ∷ 2 ∷ 0 ∷ []) ∷ came (key_rest 1)
     ∷ []) ≡ (2 ∷ 1 ∷ 3 ∷ []) ∷ (1 ∷ 1 ∷ 3 ∷ []) ∷ []
@@ -129,7 +129,7 @@ MaskAgain = told (came (1 ∷ 1 ∷ 3 ∷ 7 ∷ 0 ∷ 0 ∷ 0 ∷ 1 ∷ []) ∷ 
 abbrev pub FirstNumberZero : Type 0
 FirstNumberZero = told (came (frame_rest 1 1) ∷ came (key_rest 0) ∷ []) ≡ (1 ∷ 1 ∷ 3 ∷ []) ∷ (0 ∷ 1 ∷ 3 ∷ []) ∷ []
 
--- a number 32,767 ahead is above, and one 32,768 ahead isn't
+-- a number that is 32,767 more counts as above, and one that is 32,768 more doesn't
 abbrev pub FarthestAbove : Type 0
 FarthestAbove = told (came (1 ∷ 1 ∷ 32768 ∷ 0 ∷ 0 ∷ 0 ∷ 0 ∷ []) ∷ came (key_rest 1) ∷ []) ≡ (32768 ∷ 1 ∷ 3 ∷ []) ∷ (1 ∷ 1 ∷ 3 ∷ []) ∷ []
 
@@ -144,8 +144,8 @@ LongFrame = told (came (last_rest 2) ∷ replicate 510 (came (middle_rest 2)) ++
 abbrev pub TooLongFrame : Type 0
 TooLongFrame = told (came (last_rest 2) ∷ replicate 511 (came (middle_rest 2)) ++ came (first_rest 2) ∷ came (key_rest 1) ∷ []) ≡ (1 ∷ 1 ∷ 3 ∷ []) ∷ []
 
--- ---- a history: a key frame comes before the join; then a frame, another key frame, and a frame of three packets, of which one call
--- releases the last two; three askings find two packets
+-- ---- a history: a key frame comes before the join; then a frame, another key frame, and a frame of three packets, of which one call releases
+-- the last two; three requests find two packets
 
 abbrev pub worked_subscriber : Subscriber
 worked_subscriber = record { ssrc = 2; first = 65535; wish = record { spatial = 1; temporal = 0 } }
@@ -203,7 +203,7 @@ three_subscribers =
 abbrev pub sent_to : ℕ → Subscriber → List Packet
 sent_to number subscriber = outgoing send_marked subscriber (timeline worked_format send_marked number three_subscribers)
 
--- the number of each packet that has the marker, and `None` for each other
+-- the number of each packet with the marker, and `None` for each other packet
 abbrev pub numbers_and_markers : List Packet → List (Option ℕ)
 numbers_and_markers packets = map (λ (p : Packet). if p.marker then Some p.sequence_number else None) packets
 
@@ -211,7 +211,7 @@ abbrev pub FirstSubscriber : Type 0
 FirstSubscriber =
     map (λ (p : Packet). p.sequence_number) (sent_to 1 (joined_as 2 65535 1)) ≡ 65535 ∷ 0 ∷ 1 ∷ 2 ∷ 3 ∷ []
 
--- all frames are of the lower layer, so the marker is set for those of the lower target, and no other packet has it
+-- all frames are of the lower layer, so the marker is set for subscribers of the lower target, and no other packet has it
 abbrev pub FirstSubscriberMarkers : Type 0
 FirstSubscriberMarkers = numbers_and_markers (sent_to 1 (joined_as 2 65535 1)) ≡ None ∷ None ∷ None ∷ None ∷ Some 3 ∷ []
 
@@ -225,7 +225,7 @@ SecondSubscriberTaken =
 abbrev pub ThirdSubscriber : Type 0
 ThirdSubscriber = map (λ (p : Packet). p.sequence_number) (sent_to 3 (joined_as 4 7 1)) ≡ 7 ∷ 8 ∷ []
 
--- frame 2 became whole after subscriber 3 joined, and the frame that it refers to before
+-- frame 2 became whole after subscriber 3 joined, and the frame to which it refers became whole before
 abbrev pub ThirdSubscriberCauses : Type 0
 ThirdSubscriberCauses = map (cause (layered_wish 1) (timeline worked_format send_marked 3 three_subscribers)) (1 ∷ 2 ∷ 3 ∷ 4 ∷ []) ≡ Hole None 2
     ∷ Reference 1 ∷ Passed ∷ Passed ∷ []
@@ -242,7 +242,7 @@ complaint_at packets = complaint worked_format packets
 abbrev pub Accepted : Type 0
 Accepted = complaint_at (read_from 10 (key_rest 1 ∷ first_rest 2 ∷ middle_rest 2 ∷ last_rest 2 ∷ frame_rest 4 2 ∷ [])) ≡ None
 
--- six packets and three frames, as the fourth has only begun
+-- six packets and three frames, since the fourth frame has only begun
 abbrev pub AcceptedCounts : Type 0
 AcceptedCounts =
     packets_accepted worked_format Waiting (read_from 10 (key_rest 1 ∷ first_rest 2 ∷ middle_rest 2 ∷ last_rest 2 ∷ frame_rest 4 2 ∷ first_rest 5 ∷ []))
@@ -273,7 +273,7 @@ LacksKeyFrame = complaint_at (read_from 10 (frame_rest 2 1 ∷ [])) ≡ Some Com
 abbrev pub EmptyPayload : Type 0
 EmptyPayload = complaint_at (read_from 10 (key_rest 1 ∷ padding_rest ∷ [])) ≡ Some Complaint.Unread
 
--- a continuation without its start, a start in an unfinished frame, a broken join
+-- a continuation without its start, a start in an unfinished frame, elements that don't join
 abbrev pub LacksStart : Type 0
 LacksStart = complaint_at (read_from 10 (key_rest 1 ∷ last_rest 2 ∷ [])) ≡ Some Complaint.NotWhole
 
@@ -283,7 +283,7 @@ SecondStart = complaint_at (read_from 10 (key_rest 1 ∷ first_rest 2 ∷ frame_
 abbrev pub BrokenJoin : Type 0
 BrokenJoin = complaint_at (read_from 10 (key_rest 1 ∷ first_rest 2 ∷ (0 ∷ 1 ∷ 2 ∷ 0 ∷ 0 ∷ 0 ∷ 0 ∷ []) ∷ [])) ≡ Some Complaint.NotWhole
 
--- frame 2 never came
+-- frame 2 never arrived
 abbrev pub LacksReference : Type 0
 LacksReference = complaint_at (read_from 10 (key_rest 1 ∷ frame_rest 3 1 ∷ [])) ≡ Some (Complaint.MissingReference 3 1)
 
@@ -291,7 +291,7 @@ LacksReference = complaint_at (read_from 10 (key_rest 1 ∷ frame_rest 3 1 ∷ [
 abbrev pub LostReference : Type 0
 LostReference = complaint_at (read_from 10 (key_rest 1 ∷ key_rest 3 ∷ frame_rest 4 3 ∷ [])) ≡ Some (Complaint.MissingReference 4 3)
 
--- ---- and what it is strict about
+-- ---- the faults that a strict receiver complains about
 
 -- another frame number inside a frame
 abbrev pub OtherNumber : Type 0
@@ -309,11 +309,11 @@ StartContinues = complaint_at (read_from 10 (key_rest 1 ∷ (1 ∷ 1 ∷ 2 ∷ 0
 abbrev pub LongestFrame : Type 0
 LongestFrame = complaint_at (read_from 10 (key_rest 1 ∷ first_rest 2 ∷ replicate 510 (middle_rest 2) ++ last_rest 2 ∷ [])) ≡ None
 
--- and a 513th packet is too many
+-- a 513th packet of a frame is too many
 abbrev pub TooManyPackets : Type 0
 TooManyPackets = complaint_at (read_from 10 (key_rest 1 ∷ first_rest 2 ∷ replicate 511 (middle_rest 2) ++ last_rest 2 ∷ [])) ≡ Some Complaint.NotWhole
 
--- a descriptor that is missing or doesn't read, here by its mask
+-- a descriptor that is missing or can't be read, here because of its mask
 abbrev pub FaultyDescriptor : Type 0
 FaultyDescriptor = complaint_at (read_from 10 (key_rest 1 ∷ (1 ∷ 1 ∷ 2 ∷ 0 ∷ 9 ∷ 0 ∷ 0 ∷ 1 ∷ []) ∷ [])) ≡ Some Complaint.Unread
 
@@ -321,7 +321,7 @@ FaultyDescriptor = complaint_at (read_from 10 (key_rest 1 ∷ (1 ∷ 1 ∷ 2 ∷
 abbrev pub BrokenPayload : Type 0
 BrokenPayload = complaint_at (read_from 10 (key_rest 1 ∷ (1 ∷ 1 ∷ 2 ∷ 0 ∷ 0 ∷ 3 ∷ 0 ∷ 1 ∷ []) ∷ [])) ≡ Some Complaint.Unread
 
--- another structure in a frame that is no key frame, where the same one does no harm
+-- another structure in a frame that isn't a key frame is a fault; the same structure isn't
 abbrev pub StructureRule : Type 0
 StructureRule = complaint_at (read_from 10 (key_rest 1 ∷ (1 ∷ 1 ∷ 2 ∷ 7 ∷ 0 ∷ 0 ∷ 0 ∷ 1 ∷ []) ∷ (1 ∷ 1 ∷ 3 ∷ 8 ∷ 0 ∷ 0 ∷ 0 ∷ 1 ∷ []) ∷ []))
     ≡ Some Complaint.Unread
@@ -338,18 +338,18 @@ abbrev pub SourceFirst : Type 0
 SourceFirst = complaint_at (Some (sent_as 10 (key_rest 1)) ∷ Some (record { sequence_number = 13; ssrc = 2; marker = false; rest = frame_rest 2 1 })
     ∷ []) ≡ Some (Complaint.OtherSource 1 2)
 
--- and the number before the packet's content
+-- the number is checked before the packet's content
 abbrev pub NumberBeforeContent : Type 0
 NumberBeforeContent = complaint_at (Some (sent_as 10 (key_rest 1)) ∷ Some (sent_as 12 padding_rest) ∷ []) ≡ Some (Complaint.Sequence 10 12)
 
--- the first complaint stays, whatever comes after it
+-- the first complaint stays, whatever packets follow
 abbrev pub FirstComplaintStays : Type 0
 FirstComplaintStays = complaint_at (Some (sent_as 10 (frame_rest 2 1)) ∷ Some (sent_as 13 (key_rest 1)) ∷ None ∷ []) ≡ Some Complaint.NoStructure
 
--- a number that isn't above the newest empties the received numbers: frame 3 came after key frame 5, so that frame 6 lacks frame 5
+-- a number that isn't above the newest empties the received numbers: frame 3 came after key frame 5, so frame 6 lacks its reference to frame 5
 abbrev pub StaleEmpties : Type 0
 StaleEmpties = complaint_at (read_from 10 (key_rest 5 ∷ (1 ∷ 1 ∷ 3 ∷ 0 ∷ 0 ∷ 0 ∷ 0 ∷ []) ∷ frame_rest 6 1 ∷ [])) ≡ Some (Complaint.MissingReference 6 1)
 
--- and is a number to count from
+-- later distances count from that number
 abbrev pub StaleCounts : Type 0
 StaleCounts = complaint_at (read_from 10 (key_rest 5 ∷ (1 ∷ 1 ∷ 3 ∷ 0 ∷ 0 ∷ 0 ∷ 0 ∷ []) ∷ frame_rest 4 1 ∷ frame_rest 6 3 ∷ [])) ≡ None

@@ -3,7 +3,7 @@
 ghost use Rattle.forwarding_examples.specs.Rows;
 ghost use Rattle.forwarding_examples.specs.SelectionRows;
 
-/// Timelines with their verdicts and outgoing packets, worked out by hand.
+/// Timelines with their verdicts and outgoing packets. The results were worked out by hand.
 pub fn worked_timelines()
     ensures broken_chain { Rows.BrokenChainCauses }
     ensures broken_chain_numbers { Rows.BrokenChainNumbers }
@@ -31,7 +31,7 @@ pub fn worked_timelines()
     ensures hole_bounds { Rows.HoleBounds }
 {}
 
-/// Timelines that show single rules of selection, causes and markers, worked out by hand.
+/// Timelines that show single rules of selection, causes and markers. The results were worked out by hand.
 pub fn worked_selection()
     ensures passing_opens_nothing { SelectionRows.PassingOpensNothing }
     ensures new_epoch { SelectionRows.NewEpochGivesTheReason }

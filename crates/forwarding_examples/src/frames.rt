@@ -5,12 +5,12 @@ ghost use Rattle.forwarding_examples.specs.WorkedFormat;
 ghost use Rattle.forwarding_examples.specs.WorkedPackets;
 ghost use Rattle.forwarding_model.specs.frames.Reading.{IsFormat};
 
-/// The packets of the examples are read by a format for which all assumptions of the laws hold.
+/// The format that reads the packets of the examples fulfils all assumptions of the laws.
 pub fn worked_packets_have_a_format()
     ensures { IsFormat WorkedFormat.worked_format }
 {}
 
-/// Packets with the frames that they make, worked out by hand.
+/// Packets with the frames that they make. The results were worked out by hand.
 pub fn worked_frames()
     ensures padded_frame { WorkedPackets.PaddedFrame }
     ensures torn_frame { WorkedPackets.TornFrame }
@@ -35,7 +35,7 @@ pub fn worked_frames()
     ensures too_long_frame { WorkedPackets.TooLongFrame }
 {}
 
-/// More frames, outcomes and histories, worked out by hand.
+/// More packets and histories with their results, which were worked out by hand.
 pub fn worked_tracks()
     ensures torn_number { TrackRows.TornNumber }
     ensures equal_number { TrackRows.EqualNumber }

@@ -5,7 +5,7 @@ ghost use Rattle.forwarding_examples.specs.LayeredRows;
 ghost use Rattle.forwarding_examples.specs.WorkedPackets;
 ghost use Rattle.forwarding_model.specs.frames.Reading.{IsFormat};
 
-/// Histories with joins, packets, a change of wish, and what is forwarded, taken and withheld, worked out by hand.
+/// Histories with joins, packets and a change of wish. What is forwarded, taken and withheld was worked out by hand.
 pub fn worked_history()
     ensures numbers { WorkedPackets.HistoryNumbers }
     ensures taken { WorkedPackets.HistoryTaken }
@@ -18,8 +18,8 @@ pub fn worked_history()
     ensures third_subscriber_causes { WorkedPackets.ThirdSubscriberCauses }
 {}
 
-/// Histories of layered tracks with chains, from packets to causes and to what is forwarded. All assumptions of the laws hold for their
-/// format.
+/// Histories of layered tracks with chains: their packets, the causes, and the forwarded packets. Their format fulfils all assumptions of the
+/// laws.
 pub fn worked_layers()
     ensures format { IsFormat LayeredFormat.layered_format }
     ensures broken_chain { LayeredRows.BrokenChain }

@@ -1,5 +1,5 @@
-//! Worked examples of forwarding: what the definitions of `forwarding_model` yield for packets, timelines and histories that were worked
-//! out by hand, and what the definitions in `forwarding_laws` reject. Each table of rows is the contract of a function that does nothing.
+//! Worked examples of forwarding. Packets, timelines and histories show what the definitions of `forwarding_model` yield; the results were worked out by
+//! hand. Further examples show what the definitions of `forwarding_laws` reject. Each table of examples is the contract of a function that does nothing.
 #![tactic(auto)]
 
 mod forwarding;

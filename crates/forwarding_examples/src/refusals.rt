@@ -1,10 +1,10 @@
-// What the definitions in the laws reject.
+// Examples that the definitions in the laws reject.
 
 ghost use Rattle.forwarding_examples.specs.Refusals;
 
-/// Definitions that only conclusions of laws use reject what they should: a path that is empty, doesn't decrease, goes on past a root,
-/// doesn't end at a root or has another cause; a frame that isn't decodable; what isn't a restart, a link or an open target. `NoneJoins`
-/// and `EachFrameSince` are no narrower than they should be.
+/// Some definitions occur only in conclusions of laws. These definitions reject a path that is empty, doesn't decrease, continues after a root,
+/// doesn't end at a root or has another cause. These definitions also reject a frame that isn't decodable, and anything that isn't a restart, a
+/// link or an open target. `NoneJoins` and `EachFrameSince` are no narrower than they should be.
 pub fn words_refuse_what_they_should()
     ensures empty_is_no_path { Refusals.EmptyIsNoPath }
     ensures passed_is_no_root { Refusals.PassedIsNoRoot }

@@ -1,4 +1,4 @@
--- A strict receiver counts the frames of packets that are accepted as the words define it.
+-- A strict receiver counts the frames of packets that are accepted by the definition in words.
 use Rattle.std.proofs.Common.{◌≡◌, ◌⊎◌, inl, inr, ◌+◌, ◌%◌, ℕ, arith, false, List, [], ◌∷◌, ◌++◌, refl, sym, subst, ap, ◌∙◌, map, length}
 use Rattle.std.specs.List.{AllByRecursion}
 use Rattle.std.specs.declared.option.Option.{Option}
@@ -16,7 +16,7 @@ use Rattle.forwarding_laws.proofs.Receiving.{with_frame_ended, with_frame_open}
 use Rattle.forwarding_laws.proofs.StrictReceiver.{receive_on}
 use Rattle.forwarding_laws.proofs.AcceptedPackets.{AreNext, IsAt, IsBetween, accepted_at, after_part, first_taken, frames_taken, judged_frame, next_taken, numbers_of_first, take_packet, take_packets}
 
--- how many frames end, without a check of source or number
+-- how many frames end, without checks of source and number
 abbrev ended : {S : Type 0} → Format S → Receiver S → List Packet → ℕ
 ended format r [] = 0
 ended format r (p ∷ ps) = ends_frame (take_packet format r p) + ended format (take_packet format r p) ps

@@ -1,4 +1,4 @@
--- A strict receiver has no complaint about packets that are accepted as the words define it.
+-- A strict receiver has no complaint about packets that are accepted by the definition in words.
 use Rattle.std.proofs.Common.{◌≡◌, ◌⊎◌, inl, inr, ◌+◌, ◌%◌, ◌<◌, ◌≤◌, ℕ, arith, Bool, true, false, List, [], ◌∷◌, ◌++◌, refl, sym, subst, ap, ◌∙◌, cond, true≢false, ◌&&◌, map, not, length}
 use Rattle.std.specs.Prelude.{pos, ◌==◌, nat_lt}
 use Rattle.std.specs.Bool.{beq}
@@ -41,7 +41,7 @@ pub take_packets-append : {S : Type 0} (format : Format S) (r : Receiver S) (xs 
 take_packets-append format r [] ys = refl
 take_packets-append format r (x ∷ xs) ys = take_packets-append format (take_packet format r x) xs ys
 
--- the receiver has a complaint, or else this source and last number
+-- the receiver has a complaint, or has this source and this last number
 abbrev pub IsAt : {S : Type 0} → ℕ → ℕ → Receiver S → Type 0
 IsAt ssrc last Waiting = ⊥
 IsAt ssrc last (Receiving r) = (r.ssrc ≡ ssrc) × (r.sequence_number ≡ last)
@@ -103,14 +103,14 @@ taken_in_order format ssrc before (Receiving r) (p ∷ ps) at sources numbers =
 
 -- ---- frame numbers
 
--- the receiver's newest number is that of the newest frame modulo 65,536, and its numbers lie as far below as those of the frames that count
+-- the receiver's newest number equals that of the newest frame modulo 65,536, and its numbers have the same distances below it as the frames that count
 abbrev Covers : {S : Type 0} → List (ReceivedFrame S) → Received → Type 0
 Covers [] received = Unit {0}
 Covers (g ∷ past) received =
     (received.newest % 65536 ≡ g.number % 65536)
     × AllByRecursion (λ c. IsReceivedAs received.numbers received.newest g.number c.number) (counted (g ∷ past))
 
--- and likewise after the next frame is placed, for the frames that count before it
+-- the same after the next frame is placed, for the frames that count before that frame
 record IsPlacedAs {S : Type 0} (counts : List (ReceivedFrame S)) (n : ℕ) (before : Received) : Type 0 where
   same : before.newest % 65536 ≡ n % 65536
   known : AllByRecursion (λ c. IsReceivedAs before.numbers before.newest n c.number) counts
@@ -118,7 +118,7 @@ record IsPlacedAs {S : Type 0} (counts : List (ReceivedFrame S)) (n : ℕ) (befo
 congruent : (r n : ℕ) → (number_above r n) % 65536 ≡ n % 65536
 congruent r n = omega arith
 
--- a number next to the newest frame's is as far above that as its remainder is ahead of the receiver's newest number
+-- a number next to the newest frame's has the same distance above it as its remainder has above the receiver's newest number
 ahead : (r g m n : ℕ) → r % 65536 ≡ g % 65536 → n % 65536 ≡ m % 65536 → g < n → n < g + 32768 → g + ahead_of (pos r) m ≡ n
 ahead r g m n same numbered low high = omega arith
 

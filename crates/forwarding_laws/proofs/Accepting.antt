@@ -1,4 +1,4 @@
--- What a strict receiver without a complaint has seen.
+-- The packets that a strict receiver without a complaint has received.
 use Rattle.std.proofs.Common.{◌≡◌, ◌⊎◌, inl, inr, ◌+◌, ◌-◌, ◌%◌, ◌<◌, ℕ, arith, Bool, true, false, List, [], ◌∷◌, ◌++◌, refl, sym, subst, ap, ◌∙◌, cond, true≢false, ◌&&◌, map, not, length, append_assoc, append-nil}
 use Rattle.std.specs.Prelude.{pos, ◌==◌, nat_lt}
 use Rattle.std.specs.Bool.{beq}
@@ -40,7 +40,7 @@ record StandsFor {S : Type 0} (frames : List (ReceivedFrame S)) (received : Rece
   newest : IsNewest frames received.newest
   none : frames ≡ [] → received.numbers ≡ []
 
--- where a frame is placed
+-- the number that a frame gets
 record IsPlaced {S : Type 0} (frames : List (ReceivedFrame S)) (h : FrameHeader) (before : Received) : Type 0 where
   numbered : before.newest % 65536 ≡ h.number % 65536
   numbers : AllByRecursion (IsOneOf (counting h.key (is_next_to frames before.newest) (counted frames))) before.numbers
@@ -59,7 +59,7 @@ next_to g past received n same up =
     let from : g.number < number_above received.newest n = omega arith in
     both _ _ (lt-ltb g.number (number_above received.newest n) from) (lt-ltb (number_above received.newest n) (g.number + 32768) up_to)
 
--- a number 1 to 32,767 above r is read from its remainder as 1 to 32,767 ahead of r
+-- the remainder of a number 1 to 32,767 above r is read as 1 to 32,767 above r
 ahead_by : (r m n : ℕ) → m % 65536 ≡ n % 65536 → r < m → m < r + 32768 → (0 < ahead_of (pos r) n) × (ahead_of (pos r) n < 32768)
 ahead_by r m n same low high =
     let d : ahead_of (pos r) n ≡ m - r = omega arith in
@@ -195,7 +195,7 @@ abbrev structure_while : {S : Type 0} → List (ReceivedFrame S) → Option (Run
 structure_while frames None = structure_in frames
 structure_while frames (Some run) = structure_after (structure_in frames) run.first.brings.descriptor
 
--- what the receiver keeps, of the packets so far
+-- the state of the receiver after the packets so far
 record IsContent {S : Type 0} (format : Format S) (so_far : List Packet) (structure : Option S) (frame : Option OpenFrame) (received : Received) : Type 0 where
   frames : List (ReceivedFrame S)
   run : Option (Run (ReadPacket S))
@@ -223,7 +223,7 @@ whole_cut marks run h end carries =
 run_is : {X : Type 0} (marks : List (Mark X)) (run : Run X) → run_of marks ≡ Some run → IsRunOf marks run
 run_is marks run e = subst (IsRunFound marks) e (run_found marks)
 
--- a frame that goes on, or ends
+-- a frame that continues, or ends
 grown : {S : Type 0} (format : Format S) (so_far : List Packet) (frames : List (ReceivedFrame S)) (run : Run (ReadPacket S)) (frame : OpenFrame) (r : Reception S)
     → so_far ≡ packets_of frames ++ map packet_of (parts_of run) → AreReceived format frames → IsOpen format frames run frame
     → r.structure ≡ structure_after (structure_in frames) run.first.brings.descriptor → StandsFor frames r.received

@@ -203,7 +203,7 @@ other_numbers_are_holes wish events newest older n track first lt out = go (next
       subst (λ l. IsNextAbove l n above) same next,
     )
 
--- ---- holes are no frames
+-- ---- a hole isn't a frame
 
 abbrev IsNoHole : Verdict → Type 0
 IsNoHole v = (above : ℕ) (below : Option ℕ) → v ≡ Hole below above → ⊥

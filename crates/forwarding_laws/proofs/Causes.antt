@@ -1,4 +1,4 @@
--- What a standing keeps of the causes, and that a number that a cause names is lower and wasn't passed.
+-- How a standing relates to the causes; and a number that a cause names is lower, and its frame wasn't passed.
 use Rattle.std.proofs.Common.{◌≡◌, ◌≢◌, inl, inr, ◌+◌, ◌-◌, ◌<◌, ◌≤◌, ℕ, arith, Bool, true, false, List, [], ◌∷◌, ◌++◌, refl, sym, subst, ap, ◌∙◌, cond, true≢false, not, length}
 use Rattle.std.specs.Prelude.{◌==◌, nat_lt, nat_le}
 use Rattle.std.proofs.lemmas.Bool.{eqb-true, eq-eqb, ne_eqb, and_parts, ltb-true, leb-true, not-true}
@@ -51,7 +51,7 @@ pub record IsTold (past : List FrameMeaning) (steps : List Step) (s : Standing) 
   pub cut : AtBroken s.target (λ m. (m < newest_of past) × (verdict_among steps m ≡ Some Passed → ⊥))
   pub told : (m : ℕ) → verdict_among steps m ≡ Some Passed → (g : FrameMeaning) × IsMember g s.passed × (g.number ≡ m)
 
--- the frames of one epoch follow one another without others between them
+-- the frames of one epoch follow one another, without other frames between them
 pub epoch_apart : (past : List FrameMeaning) (f g : FrameMeaning) (epoch : Option ℕ) → IsOneTrack (f ∷ past) → IsEpochOf past epoch → IsMember g past
     → g.epoch ≡ f.epoch → is_epoch epoch f.epoch ≡ false → ⊥
 epoch_apart [] f g epoch track e m same other = elim m [ ]
@@ -386,7 +386,7 @@ withheld_verdict wish (PlainPacket p ∷ past) n track w = withheld_verdict wish
 withheld_verdict wish (WishChange u ∷ past) n track w = withheld_verdict wish past n track w
 withheld_verdict wish (Take ∷ past) n track w = withheld_verdict wish past n track w
 
--- a frame that came and didn't pass is withheld
+-- a frame that arrived and didn't pass is withheld
 pub unpassed_are_withheld : {S : Type 0} (wish : Wish) (frame : Frame S) (since past : List (Event S))
     → passes_at (standing wish past) frame.meaning (length frame.packets) ≡ false → IsWithheld wish (since ++ WholeFrame frame ∷ past) frame.meaning.number
 unpassed_are_withheld wish frame [] past e = inl (refl, e)

@@ -1,4 +1,4 @@
--- What the verdict on a frame says is true, and what any other verdict says is false.
+-- The verdict on a frame is true, and every other verdict is false.
 use Rattle.std.proofs.Common.{◌≡◌, ◌↔◌, inl, inr, ◌+◌, ◌-◌, ◌<◌, ◌≤◌, ℕ, arith, Bool, true, false, List, [], ◌∷◌, ◌++◌, refl, sym, subst, ap, ◌∙◌, cond}
 use Rattle.std.specs.Prelude.{nat_lt}
 use Rattle.std.proofs.lemmas.Bool.{ltb-true, ltb-false, leb-true, leb-false, lt-ltb, le-leb}
@@ -109,7 +109,7 @@ verdict_says s f packets = go (candidate_at s f) refl
 pub claimed : (s : Standing) (f : FrameMeaning) (packets : ℕ) (v : Verdict) → verdict_at s f packets ≡ v → Says s f packets v
 claimed s f packets v e = subst (Says s f packets) e (verdict_says s f packets)
 
--- ---- and what any other verdict says is false
+-- ---- every other verdict is false
 
 first_missing : (has : ℕ → Bool) (before behind : List ℕ) (d : ℕ) → AllByRecursion (λ e. has e ≡ true) before → has d ≡ false → first_failing has (before ++ d ∷ behind) ≡ Some d
 first_missing has [] behind d passed lost = ap (λ b. cond b (first_failing has behind) (Some d)) lost
@@ -137,7 +137,7 @@ of_target s f packets is =
     let otherwise : Verdict = reference_verdict f (missing_reference (has_passed s f) f) (candidate_verdict s.queued packets (candidate_at s f)) in
     ap (λ o. target_verdict f o otherwise) (target_is s f is.0 is.1) ∙ ap (λ b. cond b otherwise (NotOfTarget (Some is.0))) is.2
 
--- and all of whose references were passed
+-- the verdict of a frame that is present in its target, and all of whose references were passed
 of_complete : (s : Standing) (f : FrameMeaning) (packets : ℕ) → IsOfTarget s f → IsComplete s f → verdict_at s f packets ≡ candidate_verdict s.queued packets (candidate_at s f)
 of_complete s f packets is complete =
     of_target s f packets is

@@ -1,4 +1,4 @@
--- The place of a complaint is the number of packets that came before the one that it is about.
+-- The place of a complaint is the number of packets before the packet that it is about.
 use Rattle.std.proofs.Common.{◌≡◌, ◌+◌, arith, true, List, [], ◌∷◌, ◌++◌, refl, sym, ap, ◌∙◌, cond, length, map}
 use Rattle.std.specs.declared.option.Option.{Option}
 use Rattle.std.specs.declared.option.Option.TheVariants.{None, Some}

@@ -1,4 +1,4 @@
--- Each passed frame is decodable in the passed frames of its epoch.
+-- Each passed frame is decodable from the passed frames of its epoch.
 use Rattle.std.proofs.Common.{◌≡◌, ◌⊎◌, inl, inr, ◌+◌, ℕ, arith, Bool, true, false, List, [], ◌∷◌, refl, sym, subst, cond, length}
 use Rattle.std.specs.Prelude.{◌==◌}
 use Rattle.std.proofs.lemmas.Bool.{eqb-true, eq-eqb}
@@ -128,7 +128,7 @@ kept_plain : (s : Standing) (b : Bool) → HasOpenKey s × IsKept s.epoch_passed
 kept_plain s true h = h
 kept_plain s false h = h
 
--- of any frames, whatever their numbers and epochs
+-- the same for any frames, whatever their numbers and epochs
 pub kept : {S : Type 0} (wish : Wish) (events : List (Event S))
     → HasOpenKey (standing wish events) × IsKept (standing wish events).epoch_passed (standing wish events).passed (standing wish events).epoch
 kept wish [] = (tt, record { in_frames = tt; one_epoch = tt; decodable = tt })

@@ -1,4 +1,4 @@
--- The distances that count in an array are valid.
+-- The used distances in an array are valid.
 use Rattle.std.proofs.Common.{◌<◌, ℕ, zero, suc, arith, List, [], ◌∷◌, take}
 use Rattle.std.specs.Prelude.{slice_index}
 use Rattle.std.specs.List.{AllByRecursion}

@@ -31,7 +31,7 @@ kept_linked has f target opened h = go (is_link_broken has f target opened) refl
     go true e k = absurd (cc)
     go false e k = unbroken_linked has f target opened e
 
--- a target that the mask and the link leave open was open before
+-- a target that is open after the rules on the mask and the link was open before
 pub kept_open : (has : ℕ → Bool) (f : FrameMeaning) (current : CurrentTarget) (target opened : ℕ) → kept_target has f current ≡ Open target opened
     → (current ≡ Open target opened) × IsLinked has f target opened
 kept_open has f (Closed reason) target opened h = absurd (cc)

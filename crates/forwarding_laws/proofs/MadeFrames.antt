@@ -1,4 +1,4 @@
--- The frames that items make are one track's frames, and whole, each with the structure of its epoch.
+-- The frames that items make are the whole frames of one track. Each is read by the structure of its epoch.
 use Rattle.std.proofs.Common.{◌≡◌, ◌⊎◌, inl, inr, ◌%◌, ◌<◌, ◌≤◌, ℕ, arith, Bool, true, false, List, [], ◌∷◌, refl, sym, subst, ap, ◌∙◌, cond, true≢false, ◌&&◌, ◌||◌, map, not}
 use Rattle.std.proofs.lemmas.Bool.{and_parts, not-true}
 use Rattle.std.specs.List.{AllByRecursion}
@@ -47,7 +47,7 @@ key_above : {S : Type 0} (structure : Option S) (newest n : ℕ) (frames : List 
 key_above None newest n frames none low = rw (none refl) tt
 key_above (Some s) newest n frames none low = each_weaker _ _ frames (λ x l. let up = least_above-lt newest n in omega arith) low
 
--- a key start comes
+-- the case of a key start
 forced_key : {S : Type 0} (format : Format S) (force : Force S) (frames : List (Frame S)) (d : Descriptor S) → IsForced format force frames → IsDescriptor format force.structure d
     → (s : S) → IsCarried format s → d.structure ≡ Some s
     → IsForced format (seen_as format force d true) frames × AreBelow (seen_as format force d true).start frames
@@ -173,7 +173,7 @@ forced_frame {S} format force frames run number h g ended low rises key wire =
 abbrev IsForcedWith : {S : Type 0} → Format S → Force S → List (Frame S) → Option (Frame S) → Type 0
 IsForcedWith format force frames frame = IsForced format (with_frame force frame) (in_front frame frames)
 
--- whether or not a number was found
+-- this holds whether or not a number was found
 forced_number : {S : Type 0} (format : Format S) (force : Force S) (frames : List (Frame S)) (run : Run (ReadPacket S)) → IsForced format force frames
     → (g : IsRun format force frames run) → IsEnded format g.s run → IsForcedWith format force frames (framed format force run (Some g.s) (number_of force run.first.brings.descriptor))
 forced_number {S} format force frames run h g ended = keyed (is_key_start d) refl
@@ -200,7 +200,7 @@ forced_number {S} format force frames run h g ended = keyed (is_key_start d) ref
     keyed false k = other k (is_above force.newest d.number) refl
     keyed true k = forced_frame format force frames run force.start h g ended (omega arith) (g.head.key_below k) (λ y. refl) (g.head.key_number k)
 
--- whatever the run
+-- this holds for any run
 forced_run : {S : Type 0} (format : Format S) (force : Force S) (frames : List (Frame S)) (o : Option (Run (ReadPacket S))) → IsForced format force frames → KeepsRun format force frames o
     → IsForcedWith format force frames (frame_of format force (whole o))
 forced_run format force frames None h k = h

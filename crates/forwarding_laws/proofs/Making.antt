@@ -141,7 +141,7 @@ forced_by {S} format ds force (Arrived p) h = go (format.payload p.rest)
     go Broken = by_showing (shown format force.structure p.rest)
     go (Elements joins) = by_showing (shown format force.structure p.rest)
 
--- the same after one more item, before the frame that the item makes
+-- the same after one more item, before the frame that the item makes is counted
 force_at : {S : Type 0} (format : Format S) (item : Item) (past : List Item) → IsBy format (said format past) (state_after format past).force
     → IsBy format (said format (item ∷ past)) (force_by format (state_after format past).force item)
 force_at format item past h =
@@ -236,7 +236,7 @@ whole_begun {X} part run h = go part.continues h
     go true k = absurd (cc)
     go false k = ended (part.end && _) k
 
--- if the frame that ends isn't a key frame, its last packet is no key start
+-- if the ended frame isn't a key frame, its last packet isn't a key start
 newest_kept : {S : Type 0} (format : Format S) (force : Force S) (o : Option (Run (ReadPacket S))) (item : Item) (run : Run (ReadPacket S))
     → cut_by o (item_mark format force.structure item) ≡ Some run → is_key_start run.first.brings.descriptor ≡ false → (force_by format force item).newest ≡ force.newest
 newest_kept format force o Missing run h k = absurd (cc)

@@ -1,4 +1,4 @@
--- What is forwarded at a frame, with its markers and numbers, agrees with the words.
+-- The packets forwarded at a frame, with their markers and numbers, agree with the words.
 use Rattle.std.proofs.Common.{◌≡◌, ◌↔◌, ◌+◌, ◌%◌, ℕ, zero, suc, arith, Bool, true, false, List, [], ◌∷◌, ◌++◌, refl, sym, ap, ◌∙◌, cond, true≢false, length, slice_get, option_map}
 use Rattle.std.proofs.lemmas.Bool.{eqb-true, eq-eqb}
 use Rattle.std.proofs.lemmas.List.{length-take-le}

@@ -1,4 +1,4 @@
--- The forwarded packets only grow, are numbered in order, and are retransmitted as they were.
+-- Forwarded packets never change, are numbered in order, and are retransmitted unchanged.
 use Rattle.std.proofs.Common.{◌≡◌, inl, inr, ◌+◌, ◌-◌, ◌%◌, ◌<◌, ◌≤◌, ℕ, zero, suc, arith, Bool, true, false, List, [], ◌∷◌, ◌++◌, refl, sym, subst, ap, ◌∙◌, cond, map, length, length-append, length-drop, append_assoc, append-nil, take, drop}
 use Rattle.std.specs.Prelude.{◌==◌}
 use Rattle.std.proofs.lemmas.Bool.{eqb-true, eq-eqb, ne_eqb}
@@ -128,7 +128,7 @@ takes_grow (Take ∷ since) past = let h = takes_grow since past in omega arith
 
 -- ---- a retransmission
 
--- the first packet at or after a place is still there in a longer list, and in the part of that up to a later place
+-- the first packet at or after a place is also found in a longer list, and in the part of that list up to a later place
 drop_longer : (i : ℕ) (xs ys rest : List Packet) (q : Packet) → drop i xs ≡ q ∷ rest → drop i (xs ++ ys) ≡ q ∷ (rest ++ ys)
 drop_longer zero [] ys rest q e = absurd (grind arith)
 drop_longer zero (x ∷ xs) ys rest q e = ap (λ l. l ++ ys) e
@@ -163,7 +163,7 @@ first_numbered i n ssrc ps p h = go (drop i ps) refl (sym (ap first_of (drop-num
     go [] e k = absurd (grind arith)
     go (q ∷ rest) e k = (q, rest, e, cc)
 
--- the last 1,024 of the first t, numbered
+-- the last 1,024 of the first t packets, numbered
 pub kept-numbered : (t n ssrc : ℕ) (ps : List Packet) → last_part 1024 (take t (numbered n ssrc ps)) ≡ numbered (n + (length (take t ps) - 1024)) ssrc (last_part 1024 (take t ps))
 kept-numbered t n ssrc ps =
     ap (last_part 1024) (take-numbered t n ssrc ps)
@@ -201,7 +201,7 @@ resent_first send subscriber past since p h near =
     subst (λ x. resent send subscriber (since ++ Take ∷ past) x.sequence_number ≡ Some x) (sym first.3)
     (find_kept i t n subscriber.ssrc (forwarded send subscriber.wish (since ++ Take ∷ past)) (first.1 ++ grown.more) first.0 stands (omega arith) near)
 
--- and only kept packets are retransmitted
+-- only kept packets are retransmitted
 find-member : (test : Packet → Bool) (ps : List Packet) (p : Packet) → find test ps ≡ Some p → IsMember p ps × (test p ≡ true)
 find-member test [] p h = absurd (grind arith)
 find-member test (x ∷ xs) p h = go (test x) refl h (find-member test xs p)

@@ -1,4 +1,4 @@
--- What follows from the facts about reading.
+-- Conclusions from the facts about reading.
 use Rattle.std.proofs.Common.{◌≡◌, ◌^◌, ◌<◌, ℕ, arith, Bool, true, false, List, [], refl, sym, subst, ap, ◌∙◌, cond, true≢false, ◌||◌}
 use Rattle.std.proofs.lemmas.Bool.{eqb-true, and_parts}
 use Rattle.std.proofs.Math.Pow.{pow_pos}
@@ -9,7 +9,7 @@ use Rattle.forwarding_model.specs.frames.Reading.DescriptorReading.{NeedsStructu
 use Rattle.forwarding_model.specs.frames.Reading.Showing.{Unread, Shows}
 use Rattle.forwarding_model.specs.frames.Frames.{all_targets, mask_by}
 
--- what a packet shows was read, and satisfies the structure rule
+-- a descriptor that a packet shows was read, and satisfies the structure rule
 pub record IsShown {S : Type 0} (format : Format S) (force : Option S) (rest : List ℕ) (d : Descriptor S) (payload : Payload) : Type 0 where
   pub reads : format.descriptor force rest ≡ Reads d
   pub obeys : obeys_structure format force d ≡ true
@@ -46,7 +46,7 @@ pub carried : {S : Type 0} (o : Option S) → has_structure o ≡ true → (s : 
 carried None h = absurd (true≢false (sym h))
 carried (Some s) h = (s, refl)
 
--- a key start shows the same whatever is in force
+-- a key start shows the same descriptor, whatever structure is in force
 pub shown-key : {S : Type 0} (format : Format S) (force other : Option S) (rest : List ℕ) (d : Descriptor S) (payload : Payload) → IsFormat format
     → shown format force rest ≡ Shows d payload → is_key_start d ≡ true → shown format other rest ≡ Shows d payload
 shown-key format force other rest d payload facts h k =
@@ -56,7 +56,7 @@ shown-key format force other rest d payload facts h k =
     ∙ ap (λ b. cond (b || keeps_structure format other d.structure) (Shows d (format.payload rest)) Unread) k
     ∙ ap (Shows d) p.payload_is
 
--- with nothing in force only a key start is shown
+-- with no structure in force, only a key start is shown
 pub shown-none : {S : Type 0} (format : Format S) (rest : List ℕ) (d : Descriptor S) (payload : Payload) → IsFormat format
     → shown format None rest ≡ Shows d payload → is_key_start d ≡ true
 shown-none format rest d payload facts h =

@@ -1,4 +1,4 @@
--- One frame that passes, at a receiver: it keeps the numbers of the epoch's passed frames, all shifted by one multiple of 65,536.
+-- A receiver and one frame that passes: it keeps the numbers of the epoch's passed frames, all shifted by the same multiple of 65,536.
 use Rattle.std.proofs.Common.{◌≡◌, ◌⊎◌, inl, inr, ◌+◌, ◌-◌, ◌%◌, ◌<◌, ◌≤◌, ℕ, arith, Bool, true, false, List, [], ◌∷◌, refl, sym, subst, ap, ◌∙◌}
 use Rattle.std.specs.Prelude.{pos, ◌==◌}
 use Rattle.std.proofs.lemmas.Bool.{eqb-true, eq-eqb, lt-ltb, cases_lt}
@@ -16,7 +16,7 @@ use Rattle.forwarding_model.specs.Receiver.Judged.{Complete, Lacks}
 use Rattle.forwarding_laws.proofs.WrapNumbers.{ahead_of_same, number_above-mod}
 use Rattle.forwarding_laws.proofs.Members.{each_member, each_of, any_member, member_any, none_failing, failing_none}
 
--- what a receiver sees in the first packet of a frame
+-- the header that a receiver reads from the first packet of a frame
 abbrev pub header : FrameMeaning → FrameHeader
 header f = record { number = f.number % 65536; key = f.key; references = references f }
 
@@ -33,7 +33,7 @@ abbrev pub IsComplete : Judged → Type 0
 IsComplete (Complete received) = Unit {0}
 IsComplete (Lacks fdiff) = ⊥
 
--- the number that lies as far from r as x does from l
+-- the number that has the same distance from r as x has from l
 abbrev pub IsReceivedAs : List ℕ → ℕ → ℕ → ℕ → Type 0
 IsReceivedAs numbers r l x = (m : ℕ) × IsMember m numbers × (m + l ≡ x + r)
 
@@ -132,7 +132,7 @@ tracks_near ls l f received t k distances lt near found =
       );
     })
 
--- f is further above it: it has no references, and whatever its number is read as, only f itself is near
+-- f is farther above it: it has no references, and with whatever number it is read, only f itself is near
 no_references : (ls : List FrameMeaning) (l n : ℕ) (ds : List ℕ) → AllByRecursion (λ g. g.number ≤ l) ls → l + 4096 < n
     → AllByRecursion IsDistance ds → AllByRecursion (λ d. has_below ls n d ≡ true) ds → ds ≡ []
 no_references ls l n [] below far distances has = refl
@@ -171,7 +171,7 @@ tracks_far ls l f received k none low = go (is_above received.newest (f.number %
         (placed_behind received (header f) k e) (rw none refl)))
         (alone (l ∷ ls) f (f.number % 65536) [] (omega arith) low)
 
--- any frame that is no key frame
+-- any frame that isn't a key frame
 pub tracks_other : (ls : List FrameMeaning) (l f : FrameMeaning) (j : Judged)
     → Tracks (l ∷ ls) j → f.key ≡ false → AllByRecursion IsDistance (references f)
     → AllByRecursion (λ g. g.number ≤ l.number) (l ∷ ls) → l.number < f.number → missing_reference (has_below (l ∷ ls) f.number) f ≡ None

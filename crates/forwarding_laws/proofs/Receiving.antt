@@ -1,4 +1,4 @@
--- A receiver takes the packets of a whole frame, between frames and numbered in order.
+-- A receiver between frames accepts the packets of a whole frame, numbered in order.
 use Rattle.std.proofs.Common.{◌≡◌, ◌⊎◌, inl, inr, ◌+◌, ◌%◌, ◌<◌, ℕ, suc, arith, Bool, true, false, List, [], ◌∷◌, ◌++◌, refl, sym, subst, ap, ◌∙◌, cond, true≢false, ◌&&◌, map, length}
 use Rattle.std.specs.Bool.{beq}
 use Rattle.std.proofs.lemmas.Bool.{eq-eqb, lt-ltb}
@@ -14,7 +14,7 @@ use Rattle.forwarding_model.specs.Receiver.Receiver.{Receiving}
 use Rattle.forwarding_laws.specs.frames.WholeFrames.{Continues, AreContinuations, IsFirst, AreWhole}
 use Rattle.forwarding_laws.proofs.ReceivedNumbers.{header}
 
--- packets that all read as RTP
+-- packets that can all be read as RTP
 abbrev pub receive_packets : {S : Type 0} → Format S → Receiver S → List Packet → Receiver S
 receive_packets format r [] = r
 receive_packets format r (p ∷ ps) = receive_packets format (receive_packet format r p) ps
@@ -61,7 +61,7 @@ step_rest ssrc last n s b received x marker format d joins seq c count =
       lt-ltb b.packets 512 count,
     ) refl
 
--- what is received after the rest of a frame came
+-- the state after the remaining packets of a frame
 abbrev pub IsThrough : {S : Type 0} → ℕ → ℕ → S → Received → Receiver S → Type 0
 IsThrough ssrc next s received r = (last : ℕ) × ((last + 1) % 65536 ≡ next % 65536) × (r ≡ between ssrc last s received)
 

@@ -26,7 +26,7 @@ cut_closed (Open t opened) (Closed r) c = tt
 cut_closed (Open t opened) (Open u later) c = c
 cut_closed (Closed r) target c = absurd c
 
--- a target that is closed stays so until a frame opens one
+-- a closed target stays closed until a frame opens a target
 closed_at : (s : Standing) (f : FrameMeaning) → IsClosed s.target → IsClosed (kept_target_at s f)
 closed_at s f h = after_steps (target_at s f) (go (is_epoch s.epoch f.epoch))
   where
@@ -63,7 +63,7 @@ restart s f packets closed p =
     go None e present = absurd (shut (kept_target_at s f) closed present)
     go (Some t) e present = elim (opens t (best_passes f _ f.target_count t e)) [ inl k ↦ inl k | inr w ↦ inr (t, e, w) ]
 
--- passed frames are only added, so if none passed up to here, none passed on the way
+-- passed frames are only added, so if the list is the same at the end, no frame passed in between
 grows : {S : Type 0} (wish : Wish) (since past : List (Event S)) → length (standing wish past).passed ≤ length (standing wish (since ++ past)).passed
 grows wish [] past = omega arith
 grows wish (WholeFrame x ∷ since) past = go (passes_at (standing wish (since ++ past)) x.meaning (length x.packets)) (grows wish since past)

@@ -1,4 +1,4 @@
--- A run of packets that goes on, and one that ends: what its packets read as.
+-- The packets of a run that continues, and of one that ends, and how they are read.
 use Rattle.std.proofs.Common.{◌≡◌, ◌⊎◌, inl, inr, ◌+◌, ◌%◌, ◌<◌, ℕ, suc, arith, Bool, true, false, List, [], ◌∷◌, ◌++◌, refl, sym, subst, ap, ◌∙◌, cond, true≢false, ◌&&◌, map, not, length}
 use Rattle.std.specs.Prelude.{◌==◌, nat_lt}
 use Rattle.std.specs.Bool.{beq}
@@ -53,7 +53,7 @@ length-rests (x ∷ xs) = ap suc (length-rests xs)
 abbrev pub AreBelow : {S : Type 0} → ℕ → List (Frame S) → Type 0
 AreBelow n frames = AllByRecursion (λ x. x.meaning.number < n) frames
 
--- the first packet of a run, under what is in force
+-- the first packet of a run, with this structure in force
 pub record IsHead {S : Type 0} (format : Format S) (force : Force S) (s : S) (frames : List (Frame S)) (d : Descriptor S) (joins : Joins) (packet : Packet) : Type 0 where
   pub has : force.structure ≡ Some s
   pub read_with : Option S
@@ -68,7 +68,7 @@ pub record IsHead {S : Type 0} (format : Format S) (force : Force S) (s : S) (fr
 abbrev pub IsHeadOf : {S : Type 0} → Format S → Force S → S → List (Frame S) → Part (ReadPacket S) → Type 0
 IsHeadOf format force s frames first = IsHead format force s frames first.brings.descriptor (joins_of first) first.brings.packet
 
--- a run that goes on
+-- a run that continues
 pub record IsOpenRun {S : Type 0} (format : Format S) (force : Force S) (frames : List (Frame S)) (run : Run (ReadPacket S)) : Type 0 where
   pub s : S
   pub head : IsHeadOf format force s frames run.first
@@ -82,7 +82,7 @@ IsEnded format s run =
     ((run.first.brings.descriptor.end ≡ true) × (run.first.carries ≡ false) × (rests_of run.more ≡ []))
     ⊎ ((run.first.brings.descriptor.end ≡ false) × AreContinuations format s run.first.brings.descriptor.number run.first.carries 1 (rests_of run.more))
 
--- a run, whether it goes on or has ended
+-- a run that continues or has ended
 pub record IsRun {S : Type 0} (format : Format S) (force : Force S) (frames : List (Frame S)) (run : Run (ReadPacket S)) : Type 0 where
   pub s : S
   pub head : IsHeadOf format force s frames run.first
@@ -93,7 +93,7 @@ abbrev pub KeepsRun : {S : Type 0} → Format S → Force S → List (Frame S) �
 KeepsRun format force frames None = Unit {0}
 KeepsRun format force frames (Some run) = IsRun format force frames run
 
--- the next packet depends only on what is open
+-- the next packet depends only on the open frame
 abbrev pub KeepsOpen : {S : Type 0} → Format S → Force S → List (Frame S) → Option (Run (ReadPacket S)) → Type 0
 KeepsOpen format force frames None = Unit {0}
 KeepsOpen format force frames (Some run) = run.newest.end ≡ false → IsOpenRun format force frames run

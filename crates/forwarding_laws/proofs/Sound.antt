@@ -1,4 +1,4 @@
--- What a standing keeps after each event of a timeline, and what the receiver has then.
+-- What holds for a standing after each event of a timeline, and for the receiver.
 use Rattle.std.proofs.Common.{◌≡◌, ◌⊎◌, inl, inr, ◌-◌, ◌<◌, ◌≤◌, ℕ, zero, suc, arith, Bool, true, false, List, [], ◌∷◌, refl, sym, subst, ap, ◌∙◌, cond, true≢false, ◌&&◌, ◌||◌, map, length}
 use Rattle.std.proofs.lemmas.Bool.{eqb-true, and_parts, or_cases}
 use Rattle.std.specs.List.{AllByRecursion, list_any}
@@ -20,7 +20,7 @@ use Rattle.forwarding_laws.proofs.Members.{each_member, each_of, each_weaker}
 use Rattle.forwarding_laws.proofs.Distances.{distances_of}
 use Rattle.forwarding_laws.proofs.ReceivedNumbers.{header, judge_all, IsComplete, Tracks, complete_from_tracks, tracks_key, tracks_other}
 
--- P, if a target is open
+-- P holds if a target is open
 abbrev pub AtOpen : CurrentTarget → Type 0 → Type 0
 AtOpen (Open t opened) P = P
 AtOpen (Closed r) P = Unit {0}

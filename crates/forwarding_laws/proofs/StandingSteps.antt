@@ -20,7 +20,7 @@ use Rattle.forwarding_laws.specs.forwarding.StandingSteps.{TakesIn, Withholds}
 use Rattle.forwarding_laws.proofs.Sound.{is_epoch-true}
 use Rattle.forwarding_laws.proofs.Decisions.{epoch_test, link_closes, other_links_keep, target_at-open, under_mask-active}
 
--- ---- what a frame leaves of the target
+-- ---- the target after a frame
 
 other_test : (epoch : Option ℕ) (n : ℕ) → epoch ≢ Some n → is_epoch epoch n ≡ false
 other_test epoch n other = go (is_epoch epoch n) refl
@@ -39,7 +39,7 @@ other_epochs_begin_anew s f other =
 pub epochs_go_on : (s : Standing) (f : FrameMeaning) → s.epoch ≡ Some f.epoch → passed_at s f ≡ s.epoch_passed
 epochs_go_on s f here = ap (λ b. cond b s.epoch_passed []) (epoch_test s.epoch f.epoch here)
 
--- the target that the epoch leaves open goes through the rules on the mask and the link
+-- the target that is open after the rule on the epoch is then subject to the rules on the mask and the link
 open_at : (s : Standing) (f : FrameMeaning) (target opened : ℕ) → IsOpenAt s f target opened → kept_target_at s f ≡ kept_target (has_passed s f) f (Open target opened)
 open_at s f target opened o = ap (kept_target (has_passed s f) f) (target_at-open s f target opened o)
 

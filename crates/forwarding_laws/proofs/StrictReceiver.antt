@@ -57,7 +57,7 @@ key_of_none : (f : FrameMeaning) (epoch_passed : List FrameMeaning) → epoch_pa
 key_of_none f epoch_passed none (inl k) = k
 key_of_none f epoch_passed none (inr a) = absurd (true≢false (sym a ∙ rw none refl))
 
--- what holds through a frame holds after it
+-- what holds during a frame holds after it
 after_frame_on : {S : Type 0} (structures : ℕ → Option S) (next ssrc : ℕ) (epoch_passed passed : List FrameMeaning) (f : FrameMeaning) (s : S) (k : Received) (r : Receiver S)
     → AllByRecursion (λ g. Some f.epoch ≡ Some g.epoch) epoch_passed → structures f.epoch ≡ Some s → judge_all (map header (f ∷ passed)) ≡ Complete k
     → IsThrough ssrc next s k r → IsReceiving structures next ssrc (f ∷ epoch_passed) (f ∷ passed) r
@@ -115,7 +115,7 @@ fewer {S} structures next ssrc s f r h = go (is_epoch s.epoch f.epoch) r h
     go false (Receiving r) h = record { source = h.source; following = h.following; idle = h.idle; received = h.received; in_epoch = tt }
     go false (Complaining c) h = h
 
--- by its number of packets, a list that goes on is received as it goes on
+-- a longer list is received like its first part, followed by the rest
 received_more : {S : Type 0} (format : Format S) (structures : ℕ → Option S) (first ssrc : ℕ) (epoch_passed passed : List FrameMeaning) (xs ys : List Packet)
     → IsReceiving structures ((first + length xs) + length ys) ssrc epoch_passed passed
     (receive_packets format (receive_packets format Waiting (numbered first ssrc xs)) (numbered (first + length xs) ssrc ys))
@@ -201,7 +201,7 @@ never_complains format send subscriber events sent_whole layered track =
     (received send format (structure_of (frames_of events)) subscriber.wish subscriber.first subscriber.ssrc events sent_whole layered track.numbers
     (epoch_structures (frames_of events) track.structures))
 
--- and so it has none about each prefix
+-- so it has no complaint about any prefix
 pub prefix_never_complains : {S : Type 0} (format : Format S) (send : Sender S) (subscriber : Subscriber) (events : List (Event S)) (sent queued : List Packet)
     → AllByRecursion (IsSentWhole format send) (frames_of events) → IsLayered events → IsTrack format (frames_of events) → sent ++ queued ≡ outgoing send subscriber events
     → complaint format (map Some sent) ≡ None

@@ -1,4 +1,4 @@
--- What was taken and what is kept, in words.
+-- The taken and the kept packets, in words.
 use Rattle.std.proofs.Common.{◌≡◌, ◌≢◌, ◌⊎◌, inl, inr, ◌+◌, ◌-◌, ◌%◌, ◌<◌, ◌≤◌, ℕ, zero, suc, arith, Bool, true, false, List, [], ◌∷◌, ◌++◌, refl, sym, subst, ap, ◌∙◌, cond, length, length-append, length-drop, take, drop, take-append-drop}
 use Rattle.std.specs.Prelude.{◌==◌, nat_le}
 use Rattle.std.proofs.lemmas.Bool.{leb-true, leb-false, ne_eqb}
@@ -95,7 +95,7 @@ next_has_next_number send subscriber events packet h =
     = length-take-le (takes_of events) (outgoing send subscriber events) (omega (arith, within, length-numbered subscriber.first subscriber.ssrc ps)) in
     ap (λ (p : Packet). p.sequence_number) first.3 ∙ ap (λ k. (subscriber.first + k) % 65536) (sym size)
 
--- numbers from n on, and the next
+-- numbers from n on, and the number after them
 oldest_numbered : (ps : List Packet) (n ssrc next : ℕ) → next ≡ (n + length ps) % 65536 → (oldest_of (numbered n ssrc ps) next + length ps) % 65536 ≡ next
 oldest_numbered [] n ssrc next e = omega arith
 oldest_numbered (p ∷ ps) n ssrc next e = omega arith

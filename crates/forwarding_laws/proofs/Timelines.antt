@@ -1,4 +1,4 @@
--- What happens to a subscriber in any history of its track.
+-- The timeline of a subscriber in any history of its track.
 use Rattle.std.proofs.Common.{◌≡◌, ℕ, Bool, true, false, List, [], ◌∷◌, ◌++◌, refl, sym, subst, ap, ◌∙◌, cond, map, length, append_assoc, take-append-drop}
 use Rattle.std.specs.Prelude.{◌==◌, nat_lt}
 use Rattle.std.proofs.lemmas.Bool.{ltb-true}
@@ -27,7 +27,7 @@ in_front-append : {S : Type 0} (o : Option (Frame S)) (xs ys : List (Frame S)) �
 in_front-append None xs ys = refl
 in_front-append (Some x) xs ys = refl
 
--- the frames of a track are those before, with those that more items made
+-- the frames of a track are the earlier ones, and those that further items made
 pub frames_after-append : {S : Type 0} (format : Format S) (items older : List Item)
     → frames_after format (items ++ older) ≡ frames_since format older items ++ frames_after format older
 frames_after-append format [] older = refl
@@ -150,7 +150,7 @@ outgoing_never_complains format send number history subscriber sent queued facts
     (all_sent_whole format send (frames_of events) keeps track.numbers (timeline_read format send number history facts) track.whole)
     (sees_newest format send number history).layered track e
 
--- and the taken packets are a prefix
+-- the taken packets are such a prefix
 pub taken_never_complains : {S : Type 0} (format : Format S) (send : Sender S) (number : ℕ) (history : List Entry) (subscriber : Subscriber)
     → IsFormat format → KeepsWhole format send → complaint format (map Some (taken send subscriber (timeline format send number history))) ≡ None
 taken_never_complains format send number history subscriber facts keeps =
@@ -158,7 +158,7 @@ taken_never_complains format send number history subscriber facts keeps =
     outgoing_never_complains format send number history subscriber (taken send subscriber events) (queue send subscriber events) facts keeps
     (take-append-drop (takes_of events) (outgoing send subscriber events))
 
--- and each frame that it wasn't sent has a path to a root
+-- each frame that wasn't forwarded to it has a path to a root
 pub withheld_path_in_history : {S : Type 0} (format : Format S) (send : Sender S) (number : ℕ) (history : List Entry) (wish : Wish) (n : ℕ) → IsFormat format
     → IsWithheld wish (timeline format send number history) n → IsPath (path (cause wish (timeline format send number history)) n)
 withheld_path_in_history format send number history wish n facts w =

@@ -1,4 +1,4 @@
--- A verdict is Passed exactly if the frame passes; and what the other verdicts name.
+-- A verdict is Passed exactly if the frame passes. Each other verdict names a reason that holds.
 use Rattle.std.proofs.Common.{◌≡◌, ◌+◌, ◌-◌, ◌≤◌, ℕ, arith, Bool, true, false, refl, sym, cond, true≢false, ◌&&◌}
 use Rattle.std.specs.Prelude.{nat_lt}
 use Rattle.std.proofs.lemmas.Bool.{and_parts, ltb-false}

@@ -7,11 +7,11 @@ use Rattle.std.specs.declared.option.Option.TheVariants.{None, Some}
 use Rattle.wrap_number.specs.Number.{ahead_of, is_above, number_above, least_above}
 use Rattle.forwarding_model.specs.frames.Frames.{key_number}
 
--- if r and l are equal modulo 65,536, n % 65536 is as far ahead of r as n is above l, where that is less than 65,536
+-- If r and l are equal modulo 65,536, and n is less than 65,536 above l, then n % 65536 is as far ahead of r as n is above l.
 pub ahead_of_same : (r l n : ℕ) → r % 65536 ≡ l % 65536 → l ≤ n → n ≤ l + 65535 → ahead_of (pos r) (n % 65536) ≡ n - l
 ahead_of_same r l n e lo hi = omega arith
 
--- whatever the distance, the number that is read equals n modulo 65,536
+-- at any distance, the number that is read equals n modulo 65,536
 pub number_above-mod : (r n : ℕ) → (number_above r (n % 65536)) % 65536 ≡ n % 65536
 number_above-mod r n = omega arith
 

@@ -1,4 +1,4 @@
--- Forwarding in words, and its laws.
+-- Terms of forwarding, and its laws.
 pub mod TargetWords
 pub mod Since
 pub mod Restart

@@ -1,4 +1,4 @@
--- The frames of a track in words, and their laws.
+-- Terms for the frames of a track, and their laws.
 pub mod WholeFrames
 pub mod Making
 pub mod Laws

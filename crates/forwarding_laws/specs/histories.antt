@@ -1,3 +1,3 @@
--- What happens to each subscriber in a history, in words, and its laws.
+-- Terms for the events of each subscriber in a history, and their laws.
 pub mod HistoryWords
 pub mod Laws

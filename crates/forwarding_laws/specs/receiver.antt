@@ -1,3 +1,3 @@
--- What a strict receiver accepts, in words, and its laws.
+-- Terms for what a strict receiver accepts, and the laws about it.
 pub mod Accepted
 pub mod Laws

@@ -15,8 +15,8 @@ ghost use Rattle.forwarding_laws.specs.histories.Laws as HistoryLaws;
 
 // ---- targets
 
-/// A target is active exactly if its bit is set in the mask. A frame's indication for a target says whether the frame is a switch for it,
-/// and whether it is present in it. A wish allows an active target whose spatial and temporal layers are at most the wish's.
+/// A target is active exactly if its bit is set in the mask. A frame's indication for a target says whether the frame is a switch for the target, and
+/// whether the frame is present in the target. A wish allows an active target if the target's spatial and temporal layers are at most the wish's.
 pub fn tests_on_targets_mean_what_they_say()
     ensures active { TargetWords.ActiveInWords }
     ensures switch { TargetWords.SwitchInWords }
@@ -24,7 +24,7 @@ pub fn tests_on_targets_mean_what_they_say()
     ensures allowed { TargetWords.AllowedInWords }
 {}
 
-/// The aim is the best allowed target, and a frame opens the best target that it can open.
+/// The aim is the best target that the wish allows. A frame opens the best target that it can open.
 pub fn chosen_targets_are_the_best()
     ensures aim { Laws.AimIsBest }
     ensures opening { Laws.OpeningIsBest }
@@ -32,8 +32,9 @@ pub fn chosen_targets_are_the_best()
 
 // ---- how a subscriber's standing changes
 
-/// A frame closes the open target, each time for its own reason, if it is of another epoch, if its mask lacks the target, or if the
-/// target's link is broken. Nothing else closes it. Within an epoch a closed target keeps its reason.
+/// A frame closes the open target in three cases: the frame is of another epoch, its mask lacks the target, or its link in the target's chain is
+/// broken. The recorded reason is `NotOpened` in the first two cases, and `BrokenLink` in the third. Nothing else closes the target. Within an
+/// epoch, a closed target keeps its reason.
 pub fn frames_leave_the_target_or_close_it()
     ensures other_epoch { StandingSteps.OtherEpochsBeginAnew }
     ensures same_epoch { StandingSteps.EpochsGoOn }
@@ -45,8 +46,8 @@ pub fn frames_leave_the_target_or_close_it()
     ensures keeping { StandingSteps.OtherFramesKeep }
 {}
 
-/// A broken link closes the open target, and no other link does. Once a frame has come, a closed target was closed by a frame of the
-/// timeline, for the reason that the target has. That frame was the last to close a target, and no frame was forwarded since.
+/// A broken link closes the open target, and no other link does. If no target is open once a frame has arrived, then a frame of the timeline
+/// closed the target, for the recorded reason. That frame was the last one that closed a target, and no frame has been forwarded since.
 pub fn targets_are_closed_for_their_reasons<Structure>()
     ensures broken { Decisions.BrokenLinksClose }
     ensures other { Decisions.OtherLinksKeep }
@@ -54,33 +55,32 @@ pub fn targets_are_closed_for_their_reasons<Structure>()
     ensures reasons { Decisions.ReasonsHold Structure }
 {}
 
-/// A frame that can open a target opens one: the best of those that it can open.
+/// If a frame can open a target, it opens the best of the targets that it can open.
 pub fn frames_open_the_best_that_they_can()
     ensures best { Decisions.OpensTheBest }
     ensures any { Decisions.OpensWhatItCan }
 {}
 
-/// If a frame opens a target, it is the target's opening frame. If it opens none, the target that it leaves open keeps its opening frame.
-/// An open target was opened by the frame with its opening number. That frame was forwarded, and no frame since closed the target or
-/// opened another.
+/// If a frame opens a target, it becomes the target's opening frame. If it opens none, a target that stays open keeps its opening frame. The
+/// opening frame of an open target was forwarded, and no frame since then closed the target or opened another.
 pub fn open_targets_were_opened_by_their_frame<Structure>()
     ensures kept { Openings.NothingOpenedIsKept }
     ensures opened { Openings.OpenedTargetsAreCandidates }
     ensures frame { Openings.OpeningsHold Structure }
 {}
 
-/// A forwarded frame is present in its target, and the frame's mask has the target's bit set.
+/// A forwarded frame is present in its target, and the target's bit is set in the frame's mask.
 pub fn passed_frames_are_in_their_target()
     ensures { Decisions.PassesInTarget }
 {}
 
-/// A forwarded frame opens its target, or the target was open before. In the second case the frame's link in the target's chain isn't
-/// broken: if the link names the opening frame or a later one, the named frame was forwarded.
+/// A forwarded frame opens its target, or the target was open before. If it was open before, the frame's link in the target's chain isn't
+/// broken. If that link names the opening frame or a later frame, the named frame was forwarded.
 pub fn passed_frames_are_linked()
     ensures { Laws.PassesLinked }
 {}
 
-/// How each event changes a subscriber's standing. The epoch is that of the newest frame, whether or not that frame was forwarded.
+/// These laws say how each event changes a subscriber's standing. The epoch is that of the newest frame, even if that frame wasn't forwarded.
 pub fn each_event_changes_the_standing<Structure>()
     ensures passing { StandingSteps.PassingFramesAreTakenIn Structure }
     ensures withheld { StandingSteps.OtherFramesAreWithheld Structure }
@@ -90,16 +90,16 @@ pub fn each_event_changes_the_standing<Structure>()
     ensures epoch { StandingSteps.NewestFramesHaveTheEpoch Structure }
 {}
 
-/// When a frame of a track comes, exactly the forwarded frames of its epoch count as forwarded. Its references, its links and its epoch's
-/// key frame are looked up among those.
+/// When a frame arrives, its references, its links and its epoch's key frame are looked up among the forwarded frames of its epoch. No other
+/// frame counts as forwarded.
 pub fn passed_frames_of_the_epoch_count<Structure>()
     ensures frames { PassedFrames.EpochsFramesCount Structure }
     ensures number { PassedFrames.HasPassedInWords Structure }
     ensures key { PassedFrames.KeyPassedInWords Structure }
 {}
 
-/// Given the wish, the target, the queue and whether the epoch's key frame was forwarded, a decision on a frame depends only on which of
-/// its referenced and linked frames were forwarded.
+/// The decision on a frame depends on the wish, the target, the queue, and whether the epoch's key frame was forwarded. Beyond that, it depends
+/// only on which of the frame's referenced and linked frames were forwarded.
 pub fn decisions_rest_on_named_frames()
     ensures kept { Laws.KeepAlike }
     ensures candidate { Laws.OpenAlike }
@@ -114,8 +114,8 @@ pub fn passed_frames_are_decodable<Structure>()
     ensures { Laws.AreDecodable Structure }
 {}
 
-/// After a broken chain link the next forwarded frame is a key frame, or a switch for the target that it opens. All its references were
-/// forwarded.
+/// After a broken chain link, the next forwarded frame is a key frame, or a switch for the target that it opens. All frames that it refers to
+/// were forwarded.
 pub fn broken_links_end_at_a_restart<Structure>()
     ensures at_once { Laws.RestartsAtOnce Structure }
     ensures later { Laws.RestartsLater Structure }
@@ -129,7 +129,7 @@ pub fn verdicts_are_passed_where_frames_pass()
     ensures passed { Laws.PassesWherePassed }
 {}
 
-/// What each verdict says of a frame is true.
+/// If the verdict on a frame isn't `Passed`, what the verdict says about the frame is true. The verdict is never a hole.
 pub fn verdicts_are_true()
     ensures full { Decisions.FullClaims }
     ensures behind { Decisions.BehindClaims }
@@ -141,15 +141,15 @@ pub fn verdicts_are_true()
     ensures hole { Decisions.NoFrameIsAHole }
 {}
 
-/// What the verdict on a frame says is true, and what any other verdict would say is false. A frame is forwarded exactly when it is present
-/// in an open target, all its references were forwarded, and the queue has space for it.
+/// The verdict on a frame is true, and every other verdict on it would be false. A frame is forwarded exactly when it is present in an open
+/// target, all its references were forwarded, and the queue has space for it.
 pub fn the_verdict_says_what_is_so()
     ensures verdict { VerdictWords.VerdictsSayWhatIsSo }
     ensures passes { VerdictWords.PassingInWords }
 {}
 
-/// The cause of a frame's number is the verdict on the frame when it came, never a hole. The cause of any other number below the newest
-/// frame's is a hole. It lies between the least frame number above it and the greatest below it, if that is under 4,096 below the newest.
+/// The cause of a frame's number is the verdict on the frame at its arrival. That verdict is never a hole. The cause of any other number below the
+/// newest frame's is a hole. The hole names the next higher frame number, and the next lower one if that is less than 4,096 below the newest.
 pub fn causes_are_verdicts_and_holes<Structure>()
     ensures frames { CauseWords.FramesHaveTheirVerdicts Structure }
     ensures others { CauseWords.OtherNumbersAreHoles Structure }
@@ -162,8 +162,8 @@ pub fn causes_are_known_up_to_the_newest()
     ensures ahead { Laws.AheadIsAbove }
 {}
 
-/// The path of each withheld frame begins at the frame, has strictly decreasing numbers, ends at a root, and has the cause of each of its
-/// numbers. Each frame that came and wasn't forwarded is withheld.
+/// The path of a withheld frame begins at the frame, has strictly decreasing numbers and ends at a root. Each step has the cause of its number.
+/// Each frame that arrived and wasn't forwarded is withheld.
 pub fn withheld_frames_have_a_path_to_a_root<Structure>()
     ensures root { Laws.EndsAtRoot Structure }
     ensures unpassed { Laws.EndsAtRootUnpassed Structure }
@@ -175,37 +175,37 @@ pub fn withheld_frames_have_a_path_to_a_root<Structure>()
 
 // ---- which packets are forwarded
 
-/// A frame of the target's spatial layer is forwarded with the marker bit on its last packet, and any other frame with its own markers.
+/// A frame of the target's highest spatial layer is forwarded with the marker bit set on its last packet. Any other frame is forwarded with its own markers.
 pub fn markers_end_the_target_layer<Structure>()
     ensures top_layer { OutgoingWords.TopLayerInWords }
     ensures last { OutgoingWords.LastPacketsAreMarked Structure }
     ensures kept { OutgoingWords.OtherMarkersAreKept Structure }
 {}
 
-/// Setting the marker of a frame's last packet keeps the frame whole, and keeps the number of its packets.
+/// Setting the marker of a frame's last packet keeps the frame complete, and doesn't change the number of its packets.
 pub fn marking_keeps_frames_whole<Structure>()
     ensures whole { Laws.MarkingKeepsWhole Structure }
     ensures sender { Laws.MarkingIsASender Structure }
     ensures count { Laws.MarkingKeepsCount Structure }
 {}
 
-/// The packets of a forwarded frame follow all that were forwarded before. They are sent for the frame's candidate, with the next sequence
-/// numbers and the subscriber's SSRC. Any other frame, a change of the wish, or a take forwards nothing.
+/// The packets of a forwarded frame follow all packets that were forwarded before. These packets are sent for the frame's candidate target,
+/// with the next sequence numbers and the subscriber's SSRC. A frame that isn't forwarded, a change of the wish, or a take adds no packet.
 pub fn packets_of_passing_frames_go_out<Structure>()
     ensures passing { OutgoingWords.PassingFramesGoOut Structure }
     ensures others { OutgoingWords.NothingElseGoesOut Structure }
     ensures numbers { OutgoingWords.PacketsAreRenumbered }
 {}
 
-/// A packet of a plain track is forwarded exactly if fewer than 512 packets are queued. Only its sequence number and its SSRC are
-/// rewritten. In a history of a plain track each take found a packet.
+/// A packet of a plain track is forwarded exactly if fewer than 512 packets are queued. Only its sequence number and its SSRC are rewritten. In
+/// every history of a plain track, each take found a packet.
 pub fn plain_packets_go_out_as_they_came<Structure>()
     ensures passes { Plain.PlainPacketsGoOut Structure }
     ensures full { Plain.FullQueuesTakeNone Structure }
     ensures history { Plain.PlainTakesFindPackets Structure }
 {}
 
-/// What was forwarded stays as it was, and more follows it.
+/// Forwarded packets never change, and later packets are appended.
 pub fn outgoing_packets_only_grow<Structure>()
     ensures { Laws.OnlyGrows Structure }
 {}
@@ -215,12 +215,13 @@ pub fn outgoing_numbers_are_consecutive<Structure>()
     ensures { Laws.AreNumberedInOrder Structure }
 {}
 
-/// Where each take found a packet, the next sequence number is the subscriber's first plus the number of takes, modulo 65,536.
+/// If each take found a packet, the next sequence number is the subscriber's first one plus the number of takes, modulo 65,536.
 pub fn next_numbers_count_the_takes<Structure>()
     ensures { OutgoingWords.NextNumbersCountTakes Structure }
 {}
 
-/// If each take found a packet, as many packets are queued as were forwarded and not taken. In a history each take found one.
+/// If each take found a packet, the number of queued packets is the number of packets that were forwarded and not taken. In every history, each
+/// take found a packet.
 pub fn queued_packets_are_those_not_taken<Structure>()
     ensures queued { Laws.QueuesTheRest Structure }
     ensures history { HistoryLaws.TakesFindPackets Structure }
@@ -231,13 +232,13 @@ pub fn queues_are_short<Structure>()
     ensures { Plain.QueuesAreShort Structure }
 {}
 
-/// If each take found a packet, the takes returned, in order, exactly what was taken. The next packet has the next sequence number.
+/// If each take found a packet, the takes returned exactly the taken packets, in order. The next packet has the next sequence number.
 pub fn takes_give_what_was_taken<Structure>()
     ensures given { Taken.TakesGiveWhatWasTaken Structure }
     ensures next { Taken.NextHasNextNumber Structure }
 {}
 
-/// The last 1,024 packets that were taken are kept, and exactly their sequence numbers can be retransmitted.
+/// The last 1,024 taken packets are kept, or all if fewer were taken. A retransmission succeeds exactly for their sequence numbers.
 pub fn the_last_that_were_taken_are_kept<Structure>()
     ensures last { Taken.KeepsTheLast Structure }
     ensures oldest { Taken.OldestIsKept Structure }
@@ -245,7 +246,7 @@ pub fn the_last_that_were_taken_are_kept<Structure>()
     ensures numbers { Taken.ResendsTheKeptNumbers Structure }
 {}
 
-/// A packet that was taken and is still kept is retransmitted as it was taken.
+/// A retransmission of a kept packet has the same bytes as the packet that was taken.
 pub fn resends_give_first_bytes<Structure>()
     ensures first { Laws.ResendsFirstBytes Structure }
     ensures kept { Laws.ResendsKept Structure }

@@ -2,23 +2,23 @@
 
 ghost use Rattle.forwarding_laws.specs.histories.HistoryWords;
 
-/// A subscriber of a layered track sees all frames that became whole since it joined, and they are one track's frames. What happened to a
-/// subscriber only grows, until its number joins again.
+/// The timeline of a subscriber of a layered track has all frames that became complete since it joined. All these frames are frames of one
+/// track. A timeline only grows, until the subscriber's number joins again.
 pub fn timelines_have_all_frames<Structure>()
     ensures frames { HistoryWords.TimelinesHaveTheFrames Structure }
     ensures track { HistoryWords.TimelinesAreTracks Structure }
     ensures grow { HistoryWords.TimelinesOnlyGrow Structure }
 {}
 
-/// A join begins a subscriber's timeline. A later entry adds the frames that it releases, this subscriber's change of wish, or its take
-/// if a packet is queued. It adds nothing of other subscribers. On a plain track, each packet since the join is released, in order.
+/// A join begins a subscriber's timeline. A later entry adds the frames that it releases, this subscriber's change of wish, or this subscriber's take
+/// if a packet is queued. Entries of other subscribers add nothing. On a plain track, the timeline has each packet released since the join, in order.
 pub fn entries_add_what_they_say<Structure>()
     ensures entries { HistoryWords.EntriesInWords Structure }
     ensures join { HistoryWords.JoinsBegin Structure }
     ensures plain { HistoryWords.PlainTimelinesHaveThePackets Structure }
 {}
 
-/// A subscriber is known by its last join, whatever came since. A number under which nobody joined is unknown.
+/// The last join under a number determines the subscriber with that number, whatever came later. A number that never joined has no subscriber.
 pub fn subscribers_are_known_as_they_joined()
     ensures joined { HistoryWords.JoinsAreKnown }
     ensures nobody { HistoryWords.NobodyIsKnown }

@@ -1,8 +1,8 @@
-//! The laws of forwarding, and the words in which they are stated. `forwarding_model` has the definitions.
+//! The laws of forwarding, and the terms in which they are stated. `forwarding_model` has the definitions.
 //!
-//! Each law is the contract of a function that does nothing. Another crate uses a law by calling its function, or by naming the lemma in
-//! `proofs/` that proves it. For each part, `specs/` has the definitions of its words and the statements of its laws. `Structure` is the
-//! type of template dependency structures. There is no other code here.
+//! Each law is the contract of a function that does nothing. Another crate uses a law by calling its function, or by naming its lemma in
+//! `proofs/`. For each part, `specs/` defines the terms and states the laws. `Structure` is the type of template dependency structures. There
+//! is no other code here.
 #![tactic(auto)]
 
 mod forwarding;

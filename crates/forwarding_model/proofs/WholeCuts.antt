@@ -1,4 +1,4 @@
--- The runs that end are the whole cuts of a list of marks.
+-- The finished runs of a list of marks are its whole cuts.
 use Rattle.std.proofs.Common.{◌≡◌, ◌+◌, ◌<◌, ◌≤◌, ℕ, arith, Bool, true, false, List, [], ◌∷◌, ◌++◌, refl, sym, subst, ap, ◌∙◌, cond, true≢false, ◌&&◌, map, not, length, append_assoc, append-nil}
 use Rattle.std.specs.Prelude.{◌==◌, nat_lt}
 use Rattle.std.specs.Bool.{beq}
@@ -29,7 +29,7 @@ pub newest_first-append : {X : Type 0} (xs : List (Part X)) (x : Part X) → new
 newest_first-append [] x = refl
 newest_first-append (y ∷ ys) x = ap (λ l. l ++ Read y ∷ []) (newest_first-append ys x)
 
--- elements join up to here; `now` says whether one is open
+-- the elements of these parts join; `now` says whether one is open after them
 abbrev pub JoinsTo : {X : Type 0} → Bool → List (Part X) → Bool → Type 0
 JoinsTo open_element [] now = open_element ≡ now
 JoinsTo open_element (part ∷ more) now = (part.continues ≡ open_element) × JoinsTo part.carries more now
@@ -42,7 +42,7 @@ pub join_closed : {X : Type 0} (o : Bool) (xs : List (Part X)) (now : Bool) → 
 join_closed o [] now h e = h ∙ e
 join_closed o (x ∷ xs) now h e = (h.0, join_closed x.carries xs now h.1 e)
 
--- no part but the last has an end; `now` is the last one's
+-- no part but the last has an end; `now` is the end bit of the last part
 abbrev pub EndsWith : {X : Type 0} → List (Part X) → Bool → Type 0
 EndsWith [] now = ⊥
 EndsWith (part ∷ []) now = part.end ≡ now
@@ -58,12 +58,12 @@ last_ends [] now h e = h
 last_ends (x ∷ []) now h e = h ∙ e
 last_ends (x ∷ y ∷ ys) now h e = (h.0, last_ends (y ∷ ys) now h.1 e)
 
--- parts with the newest first, oldest first
+-- turns a list of parts with the newest first into one with the oldest first
 abbrev oldest_first : {X : Type 0} → List (Part X) → List (Part X)
 oldest_first [] = []
 oldest_first (part ∷ older) = oldest_first older ++ part ∷ []
 
--- ---- what is true of a run
+-- ---- the properties of a run
 
 pub record IsRunOf {X : Type 0} (marks : List (Mark X)) (run : Run X) : Type 0 where
   pub few : length run.more + 1 ≤ 512
@@ -264,7 +264,7 @@ reads-onto : {X : Type 0} (back parts : List (Part X)) (rest : List (Mark X)) �
 reads-onto back [] rest = refl
 reads-onto back (part ∷ more) rest = append_assoc (newest_first more) (Read part ∷ []) (map Read back ++ rest) ∙ reads-onto (part ∷ back) more rest
 
--- parts with the newest first, which the run of a list of marks can be, and something that is true of the newest
+-- parts with the newest first that can be the run of a list of marks, and a property of the newest part
 pub record IsBack {X : Type 0} (P : Part X → Type 0) (back : List (Part X)) : Type 0 where
   pub newest : Part X
   pub older : List (Part X)
@@ -272,7 +272,7 @@ pub record IsBack {X : Type 0} (P : Part X → Type 0) (back : List (Part X)) : 
   pub run : IsRunBack (newest ∷ older)
   pub last : P newest
 
--- of a part and those after it none but the last has an end, and this is true of the last
+-- of a part and those after it, none but the last has an end, and the last part has the property P
 abbrev pub LastHas : {X : Type 0} → (Part X → Type 0) → Part X → List (Part X) → Type 0
 LastHas P part [] = P part
 LastHas P part (next ∷ more) = (part.end ≡ false) × LastHas P next more
@@ -335,7 +335,7 @@ whole_is_cut {X} marks part more at cut =
     back.last.0 back.last.1
     (ap oldest_first (sym back.is) ∙ oldest_first-onto (part ∷ []) more)
 
--- ---- and a run that goes on is an unfinished cut
+-- ---- a run that continues is an unfinished cut
 
 none_ends : {X : Type 0} (parts : List (Part X)) → EndsWith parts false → AllByRecursion (λ p. p.end ≡ false) parts
 none_ends [] h = absurd h

@@ -1,5 +1,5 @@
--- Histories of one track, layered or plain, with its subscribers, and what happens to each subscriber in a history. Own rules.
--- A history has its newest entry first. The code returns nothing that needs a history, and only a room that records keeps its calls.
+-- Histories of one track, layered or plain, with its subscribers, and the events of each subscriber in a history. Own rules. A history has its
+-- newest entry first. No result of the code needs a history, and only a recording room keeps its calls.
 use Rattle.std.specs.Prelude.{ℕ, List, [], ◌∷◌, ◌++◌, if◌then◌else◌, ◌==◌, nat_lt, length, map}
 use Rattle.std.specs.declared.option.Option.{Option}
 use Rattle.std.specs.declared.option.Option.TheVariants.{None, Some}
@@ -11,8 +11,8 @@ use Rattle.forwarding_model.specs.frames.Reading.{Format}
 use Rattle.forwarding_model.specs.frames.Frames.{Item, frames_since}
 use Rattle.forwarding_model.specs.frames.Frames.Item.{Missing, Arrived}
 
--- One of these: a packet came or time passed, which released these items, the newest first; a subscriber joined, changed its wish, or
--- requested a packet.
+-- An entry of a history: a packet arrived or time passed, which released these items, the newest first; or a subscriber joined, changed its
+-- wish, or requested a packet.
 pub data Entry : Type 0 where
   Released : (items : List Item) → Entry
   Joined : (number : ℕ) → (subscriber : Subscriber) → Entry
@@ -27,7 +27,7 @@ items_of (Joined number subscriber ∷ past) = items_of past
 items_of (Aimed number wish ∷ past) = items_of past
 items_of (Asked number ∷ past) = items_of past
 
--- how the subscriber with this number joined, if it did
+-- the join of the subscriber with this number, if it joined
 abbrev pub subscriber_of : ℕ → List Entry → Option Subscriber
 subscriber_of number [] = None
 subscriber_of number (Released items ∷ past) = subscriber_of number past
@@ -43,18 +43,18 @@ abbrev pub asked : {S : Type 0} → Sender S → Option Subscriber → List (Eve
 asked send None events = events
 asked send (Some subscriber) events = if nat_lt (takes_of events) (length (outgoing send subscriber events)) then Take ∷ events else events
 
--- Of released items, a subscriber of a layered track sees the frames that they made whole.
+-- A subscriber of a layered track sees the frames that the released items completed.
 abbrev pub frames_released : {S : Type 0} → Format S → List Item → List Item → List (Event S)
 frames_released format older items = frame_events (frames_since format older items)
 
--- A subscriber of a plain track sees each packet that came, whatever was given up before it.
+-- A subscriber of a plain track sees each packet that was released. Numbers that were given up add nothing.
 abbrev pub packets_released : {S : Type 0} → List Item → List Item → List (Event S)
 packets_released older [] = []
 packets_released older (Missing ∷ items) = packets_released older items
 packets_released older (Arrived packet ∷ items) = PlainPacket packet ∷ packets_released older items
 
--- What happened to the subscriber since it joined: what was released, and its own changes of wish and takes. For a number that never
--- joined, everything since the beginning counts.
+-- The events of the subscriber since it joined: what was released, and its own changes of wish and takes. For a number that never joined, all
+-- entries count.
 abbrev pub timeline_by : {S : Type 0} → (List Item → List Item → List (Event S)) → Sender S → ℕ → List Entry → List (Event S)
 timeline_by released send number [] = []
 timeline_by released send number (Released items ∷ past) = released (items_of past) items ++ timeline_by released send number past

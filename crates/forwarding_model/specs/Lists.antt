@@ -1,6 +1,5 @@
--- Definitions on lists that several topics use. Own words; the code has indexes and counts.
--- Histories, timelines and passed frames are lists with the newest first. Outgoing packets and the packets of a frame are lists with the
--- oldest first.
+-- Definitions on lists that several topics use. Own definitions; the code has indexes and counts. Histories, timelines and passed frames are
+-- lists with the newest first. Outgoing packets and the packets of a frame are lists with the oldest first.
 use Rattle.std.specs.Prelude.{◌≡◌, ◌⊎◌, ◌-◌, ℕ, List, [], ◌∷◌, Bool, true, false, if◌then◌else◌, drop, length}
 use Rattle.std.specs.declared.option.Option.{Option}
 use Rattle.std.specs.declared.option.Option.TheVariants.{None, Some}

@@ -1,8 +1,7 @@
--- A strict receiver, which sees only packets and complains about the first thing that is wrong.
--- Own rules, over RFC 3550, section 5.1 (SSRC, sequence number) and AV1 RTP payload format with Appendix A (frame_number, frame_fdiff, Z, Y).
--- It shares with the forwarder what a packet is and how one is read (the structure rule and the key start among it), and which of the
--- numbers that are congruent modulo 65,536 is the nearest; no other definition of the forwarder occurs in it. The code keeps the newest
--- number modulo 65,536, and the received numbers as distances below it.
+-- A strict receiver, which sees only packets and complains about the first fault in them. Own rules, over RFC 3550, section 5.1 (SSRC, sequence
+-- number) and AV1 RTP payload format with Appendix A (frame_number, frame_fdiff, Z, Y). It uses the forwarder's definitions of what a packet
+-- is, of how one is read (with the structure rule and the key start), and of the nearest number modulo 65,536. It uses no other definition of
+-- the forwarder. The code keeps the newest number modulo 65,536, and the received numbers as distances below it.
 use Rattle.std.specs.Prelude.{◌+◌, ◌%◌, ℕ, List, [], ◌∷◌, Bool, true, false, if◌then◌else◌, ◌==◌, ◌&&◌, not, nat_lt}
 use Rattle.std.specs.Bool.{beq}
 use Rattle.std.specs.List.{list_any}
@@ -33,8 +32,9 @@ pub record FrameHeader : Type 0 where
   pub key : Bool
   pub references : List ℕ
 
--- The frame's number, and the numbers that count as received before it. A key frame empties these and has its own number. Any other has
--- the nearest number; if that isn't above the newest, these are emptied too, and its own number will do, as only distances matter.
+-- The frame's number, and the numbers that count as received before it. A key frame empties the received numbers, and has its own number. Any other
+-- frame has the nearest number. If the nearest number isn't above the newest, the received numbers are emptied too, and the frame has its own
+-- number, since only distances matter.
 abbrev pub placed : Received → FrameHeader → Received
 placed received header =
     if header.key then record { newest = header.number; numbers = [] }
@@ -42,11 +42,11 @@ placed received header =
     then record { newest = number_above received.newest header.number; numbers = received.numbers }
     else record { newest = header.number; numbers = [] })
 
--- the number d below n is among these
+-- the number that is d below n is in the list
 abbrev pub is_received : List ℕ → ℕ → ℕ → Bool
 is_received numbers n d = list_any (λ m. (m + d) == n) numbers
 
--- a frame has all references, or lacks the one at this distance
+-- all references of a frame were received, or the one at this distance wasn't
 pub data Judged : Type 0 where
   Complete : (received : Received) → Judged
   Lacks : (fdiff : ℕ) → Judged
@@ -63,7 +63,7 @@ judge received header = judged_at (placed received header) header.references
 
 -- ---- packets
 
--- a frame that has begun: its header, how many packets it has, and whether the last left an element open
+-- a frame that has begun: its header, how many packets it has, and whether the last packet left an element open
 pub record OpenFrame : Type 0 where
   pub header : FrameHeader
   pub packets : ℕ
@@ -102,7 +102,7 @@ first_packet d joins = record { header = header_of d; packets = 1; carries = joi
 abbrev pub next_packet : OpenFrame → Joins → OpenFrame
 next_packet frame joins = record { header = frame.header; packets = frame.packets + 1; carries = joins.carries }
 
--- a packet with the start bit comes only where no frame is open, and continues no element; any other continues the open frame
+-- a packet with the start bit is only accepted if no frame is open and it continues no element; any other packet must continue the open frame
 abbrev pub with_part : {S : Type 0} → Reception S → Option OpenFrame → Descriptor S → Joins → Receiver S
 with_part r None d joins =
     if d.start && not joins.continues then with_frame r (first_packet d joins) d.end else Complaining Complaint.NotWhole
@@ -147,7 +147,7 @@ unread Waiting = Complaining Complaint.Unread
 unread (Receiving r) = Complaining Complaint.Unread
 unread (Complaining complaint) = Complaining complaint
 
--- what comes is a packet, or bytes that aren't an RTP packet
+-- the input is a packet, or bytes that aren't an RTP packet
 abbrev pub receive : {S : Type 0} → Format S → Receiver S → Option Packet → Receiver S
 receive format receiver None = unread receiver
 receive format receiver (Some packet) = receive_packet format receiver packet
@@ -173,13 +173,13 @@ is_content Waiting = true
 is_content (Receiving r) = true
 is_content (Complaining complaint) = false
 
--- how many of these are accepted before a complaint, which is the place of the complaint
+-- how many of these packets are accepted before a complaint; this is also the place of the complaint
 abbrev pub packets_accepted : {S : Type 0} → Format S → Receiver S → List (Option Packet) → ℕ
 packets_accepted format receiver [] = 0
 packets_accepted format receiver (came ∷ more) =
     if is_content (receive format receiver came) then packets_accepted format (receive format receiver came) more + 1 else 0
 
--- 1 for a packet that is accepted and leaves no frame open, since it ends one
+-- 1 for an accepted packet that leaves no frame open, since it ends one; otherwise 0
 abbrev pub ends_frame : {S : Type 0} → Receiver S → ℕ
 ends_frame Waiting = 0
 ends_frame (Receiving r) = open_or_ended r.frame

@@ -1,4 +1,4 @@
--- What happens to a subscriber, which frames are forwarded to it, as which packets, and why a frame was withheld.
+-- The events of a subscriber, which frames are forwarded to it and in which packets, and why other frames are withheld.
 pub mod Timeline
 pub mod Targets
 pub mod Selection

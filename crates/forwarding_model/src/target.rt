@@ -1,19 +1,19 @@
-// The decode target that a subscriber is sent, as the selection keeps it.
+// The decode target that is forwarded to a subscriber.
 
-/// Why no decode target is open. Own rule; frames are named by their unwrapped numbers.
+/// The reason why no decode target is open (own rule). Frame numbers are unwrapped.
 #[derive(Clone, Copy, Debug, PartialEq, Eq)]
 pub enum Reason {
-    /// At frame `at` the target's chain was found broken: the frame's link names frame `number`, which wasn't forwarded.
+    /// The target's chain was broken at frame `at`. The previous frame of the chain is frame `number`, which wasn't forwarded.
     BrokenLink { at: u64, number: u64 },
-    /// No target was opened since frame `since`. That frame was the first of its epoch to come, or its mask lacked the target that was
-    /// open. Before any frame came, `since` is 0.
+    /// No target has been opened since frame `since`. That frame was the first of its epoch to arrive, or its mask lacked the target that was
+    /// open. Before the first frame, `since` is 0.
     NotOpened { since: u64 },
 }
 
-/// The decode target that is forwarded to a subscriber, or why there is none. Own rule.
+/// The decode target that is forwarded to a subscriber, or the reason why there is none (own rule).
 #[derive(Clone, Copy, Debug, PartialEq, Eq)]
 pub enum CurrentTarget {
-    /// Decode target `index` has been open since the frame with the number `opened`.
+    /// Decode target `index` is open. Frame number `opened` opened it.
     Open { index: u8, opened: u64 },
     /// No decode target is open.
     Closed { reason: Reason },

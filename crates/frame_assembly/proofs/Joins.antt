@@ -1,10 +1,10 @@
--- Parts join as their packets do.
+-- Parts join exactly if their packets do.
 use Rattle.std.proofs.Common.{◌≡◌, ◌↔◌, Bool, false, List, [], ◌∷◌, ◌++◌, map, refl, sym, ◌∙◌, ap}
 use Rattle.obu_element.specs.Joins.{Flags, AreJoined, Join as PacketsJoin}
 use Rattle.forwarding_model.specs.frames.Cuts.{Part, Join, JoinSoFar}
 use Rattle.frame_assembly.specs.Joins.{flags_of}
 
--- the packets join after one that left an element open, or didn't
+-- the packets join after a packet that left an element open, or didn't
 record JoinFrom (open_element : Bool) (packets : List Flags) : Type 0 where
   first : (p : Flags) (more : List Flags) → packets ≡ p ∷ more → p.continues ≡ open_element
   next : (front more : List Flags) (p q : Flags) → packets ≡ front ++ p ∷ q ∷ more → q.continues ≡ p.carries

@@ -1,5 +1,5 @@
--- What contracts see of an assembly, and after which packets it is in that state. Lists of marks have the newest first, lists of packets
--- the oldest. Which marks make a frame is defined in `forwarding_model`, on whole lists of marks.
+-- What contracts see of an assembly, and after which packets it is in that state. Lists of marks have the newest first, lists of packets the
+-- oldest first. `forwarding_model` defines, for whole lists of marks, which marks make a frame.
 use Rattle.std.specs.Prelude.{◌≡◌, ◌≢◌, ◌∷◌, [], ℕ, Bool, if◌then◌else◌, List, Option, None, Some, map}
 use Rattle.forwarding_model.specs.frames.Cuts.{Part, Mark as CutMark, Run, Outcome as CutOutcome, parts_of, run_of, cut_of, IsWholeCut, IsUnfinishedCut, EndsIn}
 use Rattle.forwarding_model.specs.frames.Cuts.Mark.{Gone, Padding, Unreadable, Read}
@@ -31,7 +31,7 @@ EndsWhole marks = (parts : List (Part (List ℕ))) × IsWholeCut parts × EndsIn
 abbrev pub EndsUnfinished : List (CutMark (List ℕ)) → Type 0
 EndsUnfinished marks = (parts : List (Part (List ℕ))) × IsUnfinishedCut parts × EndsIn marks parts
 
--- the mark isn't padding, and the marks with it end in neither a whole nor an unfinished cut
+-- the mark isn't padding, and the marks up to it end in neither a whole nor an unfinished cut
 abbrev pub EndsNothing : CutMark (List ℕ) → List (CutMark (List ℕ)) → Type 0
 EndsNothing mark past = (mark ≢ Padding) × (EndsWhole (mark ∷ past) → ⊥) × (EndsUnfinished (mark ∷ past) → ⊥)
 
@@ -41,7 +41,7 @@ pub record Unfinished : Type 0 where
   pub open_element : Bool
   pub packets : List (List ℕ)
 
--- The frame under assembly, if there is one, and the packets of the frame that the last call completed, or none.
+-- The frame under assembly, if there is one, and the packets of the frame that the last call completed, if it completed one.
 pub record Seen : Type 0 where
   pub unfinished : Option Unfinished
   pub frame : List (List ℕ)
@@ -60,7 +60,7 @@ abbrev pub frame_of : Option (Run (List ℕ)) → List (List ℕ)
 frame_of None = []
 frame_of (Some run) = packets_of run
 
--- the assembly is in the state that these marks with their packets leave
+-- the assembly is in the state after these marks with their packets
 pub record IsAfter (assembly : Seen) (past : List (CutMark (List ℕ))) : Type 0 where
   pub unfinished : assembly.unfinished ≡ unfinished_of (run_of past)
   pub frame : assembly.frame ≡ frame_of (cut_of past)

@@ -10,6 +10,6 @@ flags_of part = record { continues = part.continues; carries = part.carries }
 abbrev pub PartsJoinAsPackets : Type 0 → Type 0
 PartsJoinAsPackets X = (parts : List (Part X)) → Join false parts ↔ PacketsJoin (map flags_of parts)
 
--- and where an element may be open at the end
+-- the same if an element may be open at the end
 abbrev pub PartsJoinSoFarAsPackets : Type 0 → Type 0
 PartsJoinSoFarAsPackets X = (parts : List (Part X)) → JoinSoFar false parts ↔ AreJoined (map flags_of parts)

@@ -1,4 +1,4 @@
--- The value that the fields of a frame have for contracts.
+-- The value that the fields of a frame represent for contracts.
 use Rattle.std.specs.Prelude.{[], ℕ, List, Option, None, Some}
 use Rattle.frame_assembly.specs.declared.frame.Frame.TheInside.{Inside}
 use Rattle.frame_assembly.specs.declared.frame.Progress.{Progress}

@@ -1,4 +1,4 @@
--- How one mark changes what contracts see. Only for the code here: contracts of public calls are about whole lists of marks.
+-- How one mark changes what contracts see. These definitions are only for private functions; contracts of public calls are about whole lists of marks.
 use Rattle.std.specs.Prelude.{◌++◌, ◌∷◌, [], ℕ, ◌==◌, ◌&&◌, nat_lt, Bool, false, if◌then◌else◌, List, Option, None, Some, length}
 use Rattle.std.specs.Bool.{beq}
 use Rattle.forwarding_model.specs.frames.Cuts.{Part, Mark as CutMark}
@@ -10,7 +10,7 @@ use Rattle.frame_assembly.specs.Assembled.{Seen, Unfinished}
 abbrev pub nothing : Seen
 nothing = record { unfinished = None; frame = [] }
 
--- a frame without packets, as its start begins it
+-- the frame that a start begins, still without packets
 abbrev pub begun : ℕ → Unfinished
 begun number = record { number = number; open_element = false; packets = [] }
 
@@ -28,7 +28,7 @@ continued (Some u) number continues carries bytes =
 abbrev pub with_part : Option Unfinished → Part (List ℕ) → Option Unfinished
 with_part u part = continued (begun_at part u) part.number part.continues part.carries part.brings
 
--- what contracts see then, and the outcome, for a part that may end the frame
+-- what contracts see after a part that may end the frame, and the outcome
 abbrev pub ended : Bool → Option Unfinished → Seen
 ended end None = nothing
 ended end (Some u) =

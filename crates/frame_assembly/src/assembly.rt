@@ -1,4 +1,4 @@
-// Assembles packets into whole frames.
+// Assembles packets into complete frames.
 ghost use Rattle.std.specs.Prelude.{◌≡◌, ◌<◌, ◌≤◌, ◌↔◌, ◌∷◌, [], IfOk, List, None, Some, length, map, slice_get, ℕ};
 ghost use Rattle.forwarding_model.specs.frames.Cuts.{EndsIn, IsWholeCut, Mark as CutMark, Part, outcome, run_of};
 ghost use Rattle.frame_assembly.specs.Assembled.{EndsNothing, EndsUnfinished, EndsWhole, IsAfter, answer, marked};
@@ -11,8 +11,8 @@ use sfu_base::NoMemory;
 use std::alloc::Global;
 use std::marker::Model;
 
-/// Assembles the packets of a layered track into frames (RTP Payload Format For AV1, section 4.4 and Appendix A). Clauses see the frame
-/// under assembly, if there is one, and the packets of the frame that the last call completed, or none.
+/// Assembles the packets of a layered track into frames (RTP Payload Format For AV1, section 4.4 and Appendix A). Contracts see the frame under
+/// assembly, if there is one. They also see the packets of the frame that the last call completed, if it completed one.
 #[derive(Drop)]
 pub struct Assembly {
     frame: Frame,
@@ -29,7 +29,7 @@ impl Model for Assembly {
 }
 
 impl Assembly {
-    /// An assembly without packets. All memory is allocated here: for 512 packets and a spare slot. `NoMemory`: out of memory.
+    /// An assembly without packets. Allocates memory for 512 packets and a spare slot, or returns `NoMemory`. No later call allocates memory.
     pub fn new(alloc: Global) -> Result<Assembly, NoMemory>
         ensures value { IfOk result (λ assembly. assembly ≡ record { unfinished = None; frame = [] }) }
         ensures stands { IfOk result (λ assembly. IsAfter assembly []) }
@@ -40,13 +40,13 @@ impl Assembly {
         })
     }
 
-    /// Processes the next packet, at most 1,500 bytes, which are copied. Returns
-    /// - `Whole` if the packet completes a frame: at most 512 parts (own rule), with only padding between them, all with one frame number.
-    ///   Only the first part has `start`, and only the last has `end`. The first part's Z is 0, each next part's Z is the Y of the part
-    ///   before, and the last part's Y is 0;
-    /// - `Partial` if such a frame isn't complete yet; its last OBU element may be open then;
-    /// - `Pad` at padding;
-    /// - `Torn` at anything else: the frame under assembly, if there is one, is dropped (own rule).
+    /// Processes the next packet, of at most 1,500 bytes, and copies its bytes. Returns
+    /// - `Whole` if the packet completes a frame. A frame has at most 512 parts (own rule), with only padding between them, all with one frame
+    ///   number. Only the first part has `start`, and only the last has `end`. The Z of the first part and the Y of the last part are 0. The Z of
+    ///   each later part is the Y of the part before;
+    /// - `Partial` if such a frame isn't complete yet. The frame's last OBU element may then be unfinished;
+    /// - `Pad` if the packet is padding;
+    /// - `Torn` in all other cases: the frame under assembly, if there is one, is dropped (own rule).
     pub fn push(&mut self, mark: &Mark, packet: &[u8]) -> Outcome
         requires { length packet.now ≤ 1500 }
         ensures stands { (past : List (CutMark (List ℕ))) → IsAfter self.old past → IsAfter self.new (marked mark.now packet.now ∷ past) }
@@ -67,8 +67,8 @@ impl Assembly {
         self.frame.take_mark(mark, &mut self.spare)
     }
 
-    /// Processes the next packet as [`Assembly::push`] does, but in a slot. If the packet becomes one of the first 32 parts of the frame under
-    /// assembly, the slot is swapped with one of the assembly's, so that no byte is copied. The bytes in the slot then belong to no frame.
+    /// Processes the next packet like [`Assembly::push`], but takes it from a slot. If the packet becomes one of the first 32 parts of the frame under
+    /// assembly, the slot is swapped with one of the assembly's slots. Then no byte is copied. The bytes that are in the slot afterwards belong to no frame.
     pub fn push_slot(&mut self, mark: &Mark, slot: &mut Box<PacketSlot>) -> Outcome
         ensures stands { (past : List (CutMark (List ℕ))) → IsAfter self.old past → IsAfter self.new (marked mark.now slot.old.value ∷ past) }
         ensures outcome { (past : List (CutMark (List ℕ))) → IsAfter self.old past
@@ -87,7 +87,7 @@ impl Assembly {
         self.frame.take_mark(mark, slot)
     }
 
-    /// The number of packets of the frame that the last call completed, at most 512; 0 if that call completed none.
+    /// The number of packets of the frame that the last call completed, at most 512. The number is 0 if that call completed no frame.
     pub fn count(&self) -> u16
         ensures count { result ≡ length self.now.frame }
         ensures few { length self.now.frame ≤ 512 }
@@ -95,7 +95,7 @@ impl Assembly {
         self.frame.count()
     }
 
-    /// The bytes of one packet of the frame that the last call completed. Places count from 0; `place` must be below `count`.
+    /// The bytes of the packet at `place` in the frame that the last call completed. Places count from 0, and `place` must be below `count`.
     pub fn packet(&self, place: u16) -> &[u8]
         requires { place < length self.now.frame }
         ensures { slice_get self.now.frame place ≡ Some result.now }

@@ -1,4 +1,4 @@
-// The frame under assembly, and how a mark with a packet in a slot changes it.
+// The frame under assembly, and how a mark and its packet change it.
 ghost use Rattle.std.specs.Prelude.{◌≡◌, ◌<◌, ◌≤◌, [], IfOk, None, Some, is_some, length, slice_get, true};
 ghost use Rattle.frame_assembly.specs.Assembled.{marked};
 ghost use Rattle.frame_assembly.specs.Steps.{answered, begun, continued, ended, made_of, nothing, pushed};
@@ -22,7 +22,7 @@ enum Progress {
     Whole,
 }
 
-/// The frame under assembly, if there is one, and the packets of the frame that the last call completed, or none.
+/// The frame under assembly, if there is one. Also has the packets of the frame that the last call completed, if it completed one.
 #[derive(Drop)]
 pub struct Frame {
     progress: Progress,
@@ -41,7 +41,7 @@ impl Model for Frame {
 }
 
 impl Frame {
-    /// No frame. All memory is allocated here; `NoMemory`: out of memory.
+    /// A value without a frame. Returns `NoMemory` if memory runs out. No later call allocates memory.
     pub fn new(alloc: Global) -> Result<Frame, NoMemory>
         ensures { IfOk result (λ frame. frame ≡ nothing) }
     {
@@ -53,9 +53,9 @@ impl Frame {
         })
     }
 
-    // Clauses here say how one call changes what is seen; those of `Assembly` say what follows for whole lists of marks.
-    /// Applies a mark, whose packet is in the slot, to the frame so far. If the packet is added to the frame, the slot may be swapped with
-    /// one of the frame's.
+    // The clauses here are about one call, and those of `Assembly` about whole lists of marks.
+    /// Applies a mark, whose packet is in `slot`, to the frame so far. If the packet is added to the frame, the slot may be swapped with one of
+    /// the frame's slots.
     pub fn take_mark(&mut self, mark: &Mark, slot: &mut Box<PacketSlot>) -> Outcome
         ensures seen { self.new ≡ pushed self.old (marked mark.now slot.old.value) }
         ensures made { result ≡ made_of self.old (marked mark.now slot.old.value) }
@@ -96,7 +96,7 @@ impl Frame {
         Outcome::Torn
     }
 
-    // Forgets a whole frame: it is available only until the next mark.
+    // Forgets a complete frame, which is available only until the next mark.
     fn forget_whole(&mut self)
         ensures { self.new ≡ record { unfinished = self.old.unfinished; frame = [] } }
     {
@@ -115,7 +115,7 @@ impl Frame {
         self.packets.clear();
     }
 
-    // Adds a packet, if it continues the unfinished frame. Returns whether it does.
+    // Adds a packet if it continues the unfinished frame. Returns whether it was added.
     fn extend(
         &mut self,
         number: u16,
@@ -139,7 +139,7 @@ impl Frame {
         true
     }
 
-    // Ends the frame so far: it is whole, or it is dropped as torn if an OBU element is open.
+    // Ends the frame so far. The frame is complete, unless an OBU element is unfinished. With an unfinished element, the frame is dropped as torn.
     fn finish(&mut self) -> Outcome
         requires { is_some self.old.unfinished ≡ true }
         ensures seen { self.new ≡ ended true self.old.unfinished }
@@ -152,7 +152,7 @@ impl Frame {
         Outcome::Whole
     }
 
-    /// How many packets the whole frame has; 0 where no frame is whole.
+    /// How many packets the complete frame has, or 0 if no frame is complete.
     pub fn count(&self) -> u16
         ensures count { result ≡ length self.now.frame }
         ensures few { length self.now.frame ≤ 512 }
@@ -163,7 +163,7 @@ impl Frame {
         }
     }
 
-    /// The bytes of one packet of the whole frame, by its place, counted from 0.
+    /// The bytes of the packet at this place in the complete frame. Places count from 0.
     pub fn packet(&self, place: u16) -> &[u8]
         requires { place < length self.now.frame }
         ensures { slice_get self.now.frame place ≡ Some result.now }

@@ -1,4 +1,4 @@
-//! Assembles whole frames from the packets of a layered track, one packet after another. Only the constructor allocates memory.
+//! Assembles the packets of a layered track into complete frames. Only the constructor allocates memory.
 #![tactic(auto)]
 
 mod assembly;

@@ -1,9 +1,9 @@
-// What frame assembly sees of each packet (a mark), and the outcome of a mark.
+// The input of frame assembly for each packet (a mark), and the outcome of a mark.
 
-/// What comes next in the order of a layered track, as the frame under assembly sees it.
+/// The next item in the order of a layered track, as the assembly of frames needs it.
 #[derive(Clone, Copy, Debug, PartialEq, Eq)]
 pub enum Mark {
-    /// Packets are missing here, and are no longer waited for.
+    /// Packets are missing here, and were given up.
     Gone,
     /// A packet without a payload.
     Pad,
@@ -17,22 +17,22 @@ pub enum Mark {
         end: bool,
         /// frame_number of the dependency descriptor.
         number: u16,
-        /// Z: its first element continues the last one of the packet before.
+        /// Z: the packet's first element continues the last element of the previous packet.
         continues: bool,
-        /// Y: its last element goes on in the next packet.
+        /// Y: the packet's last element continues in the next packet.
         carries: bool,
     },
 }
 
-/// The outcome of a mark for the frame under assembly.
+/// The effect of a mark on the frame under assembly.
 #[derive(Clone, Copy, Debug, PartialEq, Eq)]
 pub enum Outcome {
     /// The frame so far isn't complete yet.
     Partial,
-    /// The frame is whole.
+    /// The frame is complete.
     Whole,
-    /// No frame is under assembly any more: its packets so far are dropped, with this packet.
+    /// No frame is under assembly any more. This packet and the frame's earlier packets are dropped.
     Torn,
-    /// Nothing changes: the packet is padding, and an unfinished frame stays as it is.
+    /// The packet is padding. An unfinished frame stays as it is.
     Pad,
 }

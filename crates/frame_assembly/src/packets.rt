@@ -8,18 +8,18 @@ use std::alloc::Global;
 use std::marker::Model;
 use std::mem;
 
-/// How many packets a frame has at most (own rule).
+/// The largest number of packets of a frame (own rule).
 pub const MOST_PACKETS: usize = 512;
 
-/// How many of them are swapped in; those after them are copied.
+/// The first packets of a frame, up to this number, are swapped in. Later packets are copied.
 const SWAPPED: usize = 32;
 
-/// Up to 512 packets. Clauses see the list of the packets' bytes.
+/// Up to 512 packets. Contracts see the list of the packets' bytes.
 #[derive(Drop)]
 pub struct Packets {
-    // slots of the first packets, swapped with the callers'
+    // the slots of the first 32 packets, which are swapped with the callers' slots
     swapped: Vec<Box<PacketSlot>>,
-    // Copies of the packets after those. The memory is reserved, and touched when a frame first has so many packets.
+    // Copies of the later packets. The memory is reserved, but isn't touched until a frame first has more than 32 packets.
     copied: Vec<PacketSlot>,
     count: usize,
 }
@@ -36,7 +36,7 @@ impl Model for Packets {
 }
 
 impl Packets {
-    /// No packets. The memory for 512 is allocated here; `NoMemory`: out of memory.
+    /// An empty list. Allocates memory for 512 packets, or returns `NoMemory`. No later call allocates memory.
     pub fn new(alloc: Global) -> Result<Packets, NoMemory>
         ensures { IfOk result (λ packets. packets ≡ []) }
     {
@@ -67,7 +67,7 @@ impl Packets {
         self.count = 0;
     }
 
-    /// Adds a packet: its slot is swapped with one of the first 32, or else the packet is copied.
+    /// Adds a packet. If it is one of the first 32, its slot is swapped in; otherwise the packet is copied.
     pub fn push(&mut self, slot: &mut Box<PacketSlot>)
         requires { length self.old < 512 }
         ensures { self.new ≡ self.old ++ slot.old.value ∷ [] }
@@ -93,7 +93,7 @@ impl Packets {
     }
 }
 
-// Copies a packet into the slot at this place, which is made if the slots end before it. Out of line: few frames have so many packets.
+// Copies a packet into the slot at this place. If there is no slot yet, makes one. Out of line: few frames have more than 32 packets.
 #[inline(never)]
 fn put_copy(copied: &mut Vec<PacketSlot>, place: usize, slot: &PacketSlot)
     requires place { place < 480 }
@@ -111,7 +111,7 @@ fn put_copy(copied: &mut Vec<PacketSlot>, place: usize, slot: &PacketSlot)
     copied[place].fill(slot.bytes());
 }
 
-/// A slot without bytes. `NoMemory`: out of memory.
+/// A slot without bytes. Returns `NoMemory` if memory runs out.
 pub fn empty_slot(alloc: Global) -> Result<Box<PacketSlot>, NoMemory>
     ensures { IfOk result (λ slot. slot.value ≡ []) }
 {

@@ -1,4 +1,4 @@
--- A packet with another mask if it can be remasked, or else as it is.
+-- A packet with another mask if it can be remasked, and otherwise unchanged.
 use Rattle.std.proofs.Common.{◌≡◌, ℕ, List, sym, ap, Option, None, Some}
 use Rattle.dd_structure.specs.TemplateStructure.{TemplateStructure}
 use Rattle.packet_format.specs.Remasked.{or_same, remasked, remasked_bytes}

@@ -1,8 +1,8 @@
 -- How many buffers a store has for the subscribers of its track.
 use Rattle.std.specs.Prelude.{◌+◌, ◌*◌, min, zero, suc, ℕ}
 
--- for n subscribers: 640, 256 for each of up to 15, and 12 for each of up to 256, so that two with one wish share the 1,024 packets that each
--- keeps; none if fewer than two subscribers could share them
+-- The number of buffers for n subscribers: 640, and 256 for each of the first 15, and 12 for each of the first 256. Subscribers with one wish
+-- share the 1,024 packets that each of them keeps. Fewer than two subscribers need no buffers.
 abbrev pub capacity_for : ℕ → ℕ
 capacity_for zero = 0
 capacity_for (suc zero) = 0

@@ -1,5 +1,5 @@
-// What the subscribers of the current frame share.
-ghost use Rattle.std.specs.Prelude.{◌≡◌, ◌<◌, ◌≤◌, ◌+◌, ◌*◌, [], IfOk, IfSome, None, OnOk, Some, length, max, true};
+// The packets of the current frame that subscribers share.
+ghost use Rattle.std.specs.Prelude.{◌≡◌, ◌<◌, ◌≤◌, ◌+◌, ◌-◌, ◌*◌, [], IfOk, IfSome, None, OnOk, Some, length, max, min, true};
 ghost use Rattle.std.specs.Option.{option_copied};
 ghost use Rattle.std.specs.Vec.{vec_capacity};
 ghost use Rattle.std.proofs.Props.{props};
@@ -15,25 +15,26 @@ use packet_format::Remasker;
 use sfu_base::{NoMemory, PacketBuf};
 use std::alloc::Global;
 
-/// The most packets of a frame that are shared: the capacity of a subscriber's queue, since no longer frame is forwarded.
+/// The largest number of packets of a frame that are shared. This is the capacity of a subscriber's queue, because no frame with more packets is forwarded.
 const MOST_SHARED: usize = 512;
 
-/// How many buffers a store has before its track's subscribers add theirs.
+/// The number of buffers that a store has for two or more subscribers, in addition to those for each subscriber.
 const FIRST: usize = 640;
 
-/// How many buffers each of the first 15 subscribers adds. Two with one wish share the 1,024 packets that each keeps; 15 may keep different ones.
+/// The number of buffers that each of the first 15 subscribers adds. Subscribers with the same wish share the 1,024 packets that each of them
+/// keeps. With different wishes, up to 15 subscribers may keep different packets.
 const EARLY: usize = 256;
 
-/// How many more buffers each subscriber adds: for packets with its own mask, or queued for it alone.
+/// The number of further buffers that each subscriber adds, for packets with its own mask or packets that are queued only for it.
 const OWN: usize = 12;
 
-/// Caches what the subscribers of a track are sent of its current frame: the frame's packets, each stored once for all subscribers that get
-/// it, and the first packet rewritten with one mask of active decode targets. Only the mask that was requested last is cached, since most
-/// subscribers of a frame get the same one. The cache changes no packet that is sent. `packet` is overwritten in place, never cleared.
+/// Caches the packets of the current frame that are sent to the subscribers of a track. Each packet is stored once for all subscribers that get it.
+/// The cache also has the first packet rewritten with one mask of active decode targets. Only the mask that was requested last is cached, because
+/// most subscribers of a frame get the same mask. The cache doesn't change what is sent. `packet` is overwritten in place, and never cleared.
 #[derive(Drop)]
 pub struct FrameCache {
     pub store: PacketStore,
-    // the first packets of the frame, as far as a subscriber got them
+    // the packets of the frame that are shared so far: the first ones, in order
     pub shared: Vec<SharedPacket>,
     pub mask: Option<u32>,
     pub packet: PacketBuf,
@@ -44,7 +45,7 @@ pub struct FrameCache {
 }
 
 impl FrameCache {
-    /// An empty cache, whose store has no buffers. Allocates the list for 512 shared packets. `NoMemory`: out of memory.
+    /// An empty cache, whose store has no buffers. Allocates the list for 512 shared packets, or returns `NoMemory`.
     pub fn new(alloc: Global) -> Result<FrameCache, NoMemory>
         ensures mask { IfOk result (λ cache. cache.mask ≡ None) }
         ensures shared { IfOk result (λ cache. cache.shared.items ≡ []) }
@@ -64,9 +65,9 @@ impl FrameCache {
         })
     }
 
-    /// Allocates the buffers that this many subscribers need and the store doesn't have yet: for queued packets, for packets that
-    /// subscribers with different wishes keep, and for some of each subscriber's own. A single subscriber needs none: its packets are
-    /// copied into its ring. `NoMemory`: out of memory; some buffers may have been allocated.
+    /// Allocates buffers until the store has enough for this number of subscribers. The buffers are for queued packets, for packets that
+    /// subscribers with different wishes keep, and for some packets of a single subscriber. One subscriber alone needs no buffers, because its
+    /// packets are copied into its ring. Returns `NoMemory` if memory runs out; some buffers may have been allocated by then.
     pub fn reserve(&mut self, alloc: Global, subscribers: usize) -> Result<(), NoMemory>
         ensures free { self.old.store.free ≤ self.new.store.free }
         ensures grown { self.new.store.free + self.old.store.all ≡ self.old.store.free + self.new.store.all }
@@ -76,10 +77,11 @@ impl FrameCache {
         self.store.grow(alloc, capacity_for(subscribers))
     }
 
-    /// Releases the packets of a ring that is no longer used, and frees buffers that the `left` remaining subscribers don't need.
+    /// Releases the packets of a ring that is no longer used. Deallocates free buffers that the `left` remaining subscribers don't need.
     pub fn release(&mut self, ring: OutRing, left: usize)
         ensures all { self.new.store.all ≤ self.old.store.all }
         ensures kept { capacity_for left ≤ self.old.store.all → capacity_for left ≤ self.new.store.all }
+        ensures freed { self.new.store.all ≤ self.old.store.all - min self.old.store.free (self.old.store.all - capacity_for left) }
     {
         ring.release(&mut self.store);
         self.store.shrink(capacity_for(left));
@@ -100,7 +102,7 @@ impl FrameCache {
         }
     }
 
-    /// Shares the packet at this place of the frame, if all before it are shared and a buffer is free. Out of line: once per packet.
+    /// Shares the packet at this place of the frame, if all packets before it are shared and a buffer is free. Out of line: it is called once per packet.
     #[inline(never)]
     pub fn share(&mut self, place: u16, packet: &[u8])
         requires reads { first_fault packet.now ≡ None }
@@ -117,7 +119,7 @@ impl FrameCache {
         }
     }
 
-    /// Queues the packet at this place of the frame in the ring: shared, or copied where it can't be shared.
+    /// Queues the packet at this place of the frame in the ring. The packet is shared if possible, and otherwise copied.
     #[inline(always)]
     pub fn queue(&mut self, ring: &mut OutRing, place: u16, packet: &[u8], marker: bool)
         requires capacity { length ring.old.queued < 512 }
@@ -131,7 +133,7 @@ impl FrameCache {
         ensures all { self.new.store.all ≡ self.old.store.all }
     {
         evict(&mut self.store, ring);
-        // Tested here, not in `share`, since all subscribers but the first find the packet shared already.
+        // This condition is checked here and not in `share`, because all subscribers but the first find the packet shared already.
         if self.shared.len() == usize::from(place) {
             self.share(place, packet);
         }
@@ -141,7 +143,7 @@ impl FrameCache {
         }
     }
 
-    /// Queues the packet that [`FrameCache::remask`] cached: shared, or copied where it can't be shared.
+    /// Queues the packet that [`FrameCache::remask`] cached. The packet is shared if possible, and otherwise copied.
     pub fn queue_remasked(&mut self, ring: &mut OutRing, marker: bool)
         requires capacity { length ring.old.queued < 512 }
         requires reads { first_fault self.old.packet ≡ None }
@@ -162,8 +164,8 @@ impl FrameCache {
         }
     }
 
-    /// Caches the current frame's first packet, rewritten with this mask, or copied where it can't be rewritten. If a packet with this mask
-    /// is cached already, nothing changes. `id` is the header extension id of the dependency descriptor, which is read with `force`.
+    /// Rewrites the current frame's first packet with this mask and caches it. A packet that can't be rewritten is cached unchanged. If a packet with
+    /// this mask is cached already, nothing changes. `id` is the header extension id of the dependency descriptor, which is read with `force`.
     pub fn remask(&mut self, packet: &[u8], id: u8, force: Option<&Structure>, mask: u32)
         requires reads { first_fault packet.now ≡ None }
         requires fits { length packet.now ≤ 1536 }
@@ -179,7 +181,7 @@ impl FrameCache {
         }
     }
 
-    // Whether the cached packet has this mask. If not, the packet is rewritten.
+    // Whether the cached packet was made for this mask.
     fn has(&self, mask: u32) -> bool
         ensures { result ≡ true → self.now.mask ≡ Some mask }
     {
@@ -189,7 +191,7 @@ impl FrameCache {
         }
     }
 
-    // Rewrites the packet. Out of line: once for each mask.
+    // Rewrites the packet. Out of line: it is called once for each mask.
     #[inline(never)]
     fn make(&mut self, packet: &[u8], id: u8, force: Option<&Structure>, mask: u32)
         requires reads { first_fault packet.now ≡ None }
@@ -213,7 +215,7 @@ impl FrameCache {
     }
 }
 
-// One more reference to the packet, for another ring. `None` without a packet, or if its reference count is full.
+// One more reference to the packet, for another ring. `None` if there is no packet, or if its reference count would overflow.
 #[inline(always)]
 fn another(shared: Option<&SharedPacket>) -> Option<SharedPacket>
     ensures { IfSome result (λ packet. option_copied shared.entry ≡ Some packet) }
@@ -221,7 +223,7 @@ fn another(shared: Option<&SharedPacket>) -> Option<SharedPacket>
     shared?.another()
 }
 
-// Releases the packet that the ring no longer keeps, if there is one. One call per push is enough: a take leaves at most one behind.
+// Releases a packet that the ring no longer keeps, if there is one. One call per push is enough, because a take leaves at most one such packet.
 #[inline(always)]
 fn evict(store: &mut PacketStore, ring: &mut OutRing)
     ensures ring { ring.new ≡ ring.old }
@@ -232,7 +234,7 @@ fn evict(store: &mut PacketStore, ring: &mut OutRing)
     }
 }
 
-// Queues a shared packet, and releases the packet that is still in its slot of the ring, if there is one.
+// Queues a shared packet, and releases the packet that was still in the same slot of the ring, if there was one.
 #[inline(always)]
 fn push_shared(store: &mut PacketStore, ring: &mut OutRing, packet: SharedPacket, marker: bool)
     requires { length ring.old.queued < 512 }
@@ -244,7 +246,7 @@ fn push_shared(store: &mut PacketStore, ring: &mut OutRing, packet: SharedPacket
     }
 }
 
-// How many buffers this many subscribers need to share packets: none for fewer than two.
+// How many buffers a store has for this number of subscribers. Fewer than two need none.
 fn capacity_for(subscribers: usize) -> usize
     ensures count { result ≡ capacity_for subscribers }
     ensures few { result ≤ 640 + 268 * subscribers }

@@ -1,4 +1,4 @@
-//! What the subscribers of a track share of its current frame, and the store of the shared packets. Sharing changes nothing that is sent.
+//! Caches the packets of a track's current frame, which subscribers share, and owns the store of shared packets. Sharing doesn't change what is sent.
 #![tactic(auto)]
 
 mod cache;

@@ -1,4 +1,4 @@
--- An array whose places are written one by one: first the items of a row that count, then one value at every place after them.
+-- An array whose places are written one by one: first the used items of a row, then one value at every place after them.
 use Rattle.std.proofs.Common.{◌≡◌, inl, inr, ℕ, ◌+◌, ◌-◌, ◌<◌, ◌≤◌, [], ◌∷◌, ◌++◌, List, length, get_or, set, take, drop, replicate}
 use Rattle.std.proofs.Common.{Bool, true, false, refl, sym, ap, ◌∙◌, arith, length-append}
 use Rattle.std.proofs.lemmas.List.{drop-replicate, get_or-append_right, get_or-replicate, get_or-take, length-drop, length-replicate}
@@ -45,11 +45,11 @@ front_more {A = A} n d count row out k x len few long lt done is =
 
 -- ---- which places count
 
--- a row of 32 places that count, and 32 that don't
+-- a row of 32 places that are used, and 32 that aren't
 half_counts : (k : ℕ) → k < 64 → get_or (replicate 32 true ++ replicate 32 false) k false ≡ nat_lt k 32
 half_counts k lt = agree_below_at (λ j. get_or (replicate 32 true ++ replicate 32 false) j false) (λ j. nat_lt j 32) 64 k refl lt
 
--- from place 32 - n on it says which of 32 places count, if the first n do
+-- from place 32 - n on, the row says which of 32 places are used if the first n are
 pub says_which : (row : List Bool) (k place count : ℕ) → row ≡ replicate 32 true ++ replicate 32 false → place < 32 → count ≤ 32
     → k + count ≡ 32 + place → get_or row k false ≡ nat_lt place count
 says_which row k place count is small few at =

@@ -64,7 +64,7 @@ far_behind newest n m small is far = outside (ahead_of (pos newest) n) (
         last true b e = e
         last false b e = refl
 
--- the number of a whole frame, by the least number above that code has
+-- the number of a whole frame, computed with the least number above, as the code does
 pub number_near : (force : Force TemplateStructure) (head : FrameHead) (m : ℕ) → head.number < 65536 → head.key ≡ false → m ≡ least_above force.newest head.number
     → m - force.newest < 32768 → Ok m ≡ number_or_stale force head
 number_near force head m small plain is near =

@@ -1,4 +1,4 @@
--- What is kept of a frame's first descriptor until the frame is whole, and the frame's meaning then.
+-- The head, which is kept of a frame's first descriptor until the frame is whole, and the frame's meaning then.
 use Rattle.std.specs.Prelude.{◌≤◌, ◌<◌, ℕ, Bool, true, false, if◌then◌else◌, slice_index, Option, None, Some, Result, Ok, Err}
 use Rattle.sfu_base.specs.declared.frame.FrameMeaning.{FrameMeaning}
 use Rattle.sfu_base.specs.Frame.{IsDistance}
@@ -23,7 +23,7 @@ head_of d = record {
   refs = d.refs;
 }
 
--- at most 16 references, each 1 to 4,096 frames back
+-- the head has at most 16 references, each 1 to 4,096 frame numbers back
 pub record HasReferences (head : FrameHead) : Type 0 where
   pub few : head.ref_count ≤ 16
   pub distances : (i : ℕ) → i < head.ref_count → IsDistance (slice_index head.refs i)
@@ -67,7 +67,7 @@ meant_with_head s force head (Some number) = Ok (meaning_at (layout_of s) force 
 abbrev pub meant_at : TemplateStructure → Force TemplateStructure → FrameHead → Result FrameMeaning Stale
 meant_at s force head = meant_with_head s force head (number_at force head)
 
--- a meaning that was written to its place, or the fault of a stale number
+-- the meaning, if one was written, otherwise `Stale`
 abbrev pub written_or_stale : Bool → FrameMeaning → ℕ → Result FrameMeaning Stale
 written_or_stale false meaning newest = Err (record { newest = newest })
 written_or_stale true meaning newest = Ok meaning

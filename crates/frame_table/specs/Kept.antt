@@ -1,4 +1,4 @@
--- The value that the fields of a table have for contracts, and what holds of these fields.
+-- The value that the fields of a table represent, and what always holds for these fields.
 use Rattle.std.specs.Prelude.{◌≡◌, ◌+◌, ◌<◌, ◌≤◌, ◌^◌, IfSome, None}
 use Rattle.forwarding_model.specs.frames.Frames.{Force}
 use Rattle.dd_structure.specs.TemplateStructure.{TemplateStructure}

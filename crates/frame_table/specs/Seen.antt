@@ -13,13 +13,13 @@ use Rattle.frame_table.specs.declared.table.Reading.{Reading}
 use Rattle.frame_table.specs.declared.table.Reading.TheVariants as reading
 use Rattle.frame_table.specs.declared.table.Stale.{Stale}
 
--- some bytes read as the descriptor, with this structure in force
+-- some bytes can be read as the descriptor, with this structure in force
 pub record IsReadBy (force : Option TemplateStructure) (d : Descriptor) : Type 0 where
   pub bytes : List ℕ
   pub reads : descriptor_at bytes force ≡ Ok (content_of force d)
   pub few : d.ref_count ≤ 16
 
--- a mask that is carried is one of the structure's targets
+-- a carried mask has only bits of the structure's targets
 abbrev pub IsMaskOf : Option ℕ → TemplateStructure → Type 0
 IsMaskOf mask s = IfSome mask (λ m. m < 2 ^ s.target_count)
 
@@ -46,7 +46,7 @@ answer force d = answered (obeys force d) (is_key_start (said_of force.structure
 abbrev pub seen_by : Force TemplateStructure → Descriptor → Force TemplateStructure
 seen_by force d = if obeys force d then after_descriptor structures_alone force (said_of force.structure d) else force
 
--- a descriptor that was read with the structure in force now: the first of a frame whose packets were all read with this structure
+-- a frame's first descriptor, which was read with the structure in force; so were all packets of the frame
 pub record IsFirst (force : Force TemplateStructure) (d : Descriptor) : Type 0 where
   pub structure : TemplateStructure
   pub is : force.structure ≡ Some structure
@@ -58,7 +58,7 @@ pub record IsFirst (force : Force TemplateStructure) (d : Descriptor) : Type 0 w
 abbrev pub number_by : Force TemplateStructure → Descriptor → Option ℕ
 number_by force d = number_of force (said_of force.structure d)
 
--- the meaning of a frame with this first descriptor, or `Stale` where its number is stale
+-- the meaning of a frame with this first descriptor, or `Stale` if its number is stale
 abbrev pub meant_with : TemplateStructure → Force TemplateStructure → Said TemplateStructure → Option ℕ → Result FrameMeaning Stale
 meant_with s force d None = Err (record { newest = force.newest })
 meant_with s force d (Some number) = Ok (meaning_by (layout_of s) force number d)
@@ -66,7 +66,7 @@ meant_with s force d (Some number) = Ok (meaning_by (layout_of s) force number d
 abbrev pub meant : TemplateStructure → Force TemplateStructure → Descriptor → Result FrameMeaning Stale
 meant s force d = meant_with s force (said_of force.structure d) (number_by force d)
 
--- the newest number is then the frame's, if the frame has one
+-- the newest number after the frame: the frame's number, if it has one
 abbrev pub newest_after : Option ℕ → ℕ → ℕ
 newest_after None newest = newest
 newest_after (Some number) newest = number
@@ -83,7 +83,7 @@ carried_or (Some mask) old = mask
 abbrev pub masked : Force TemplateStructure → Option ℕ → Force TemplateStructure
 masked force mask = record force { mask = carried_or mask force.mask }
 
--- a key start with this structure, mask and frame number
+-- what is in force after a key start with this structure, mask and frame number
 abbrev pub begun : Force TemplateStructure → TemplateStructure → Option ℕ → ℕ → Force TemplateStructure
 begun force s mask number = record {
   structure = Some s;

@@ -1,5 +1,5 @@
-// The arrays of a frame's meaning. `select_unpredictable` reads every item, whether it counts or not; with an `if` the compiler would branch at
-// each place.
+// Fills the arrays of a frame's meaning. `select_unpredictable` reads every item, whether it is used or not. With an `if`, the compiler would
+// branch at each place.
 
 ghost use Rattle.std.specs.Prelude.{◌≡◌, ◌<◌, ◌≤◌, ◌++◌, false, length, nat_lt, replicate, take, true, None};
 ghost use Rattle.sfu_base.specs.declared.frame.Dti.TheVariants.{NotPresent};
@@ -9,7 +9,7 @@ use dd_structure::Structure;
 use sfu_base::{Dti, Wish};
 use std::hint::select_unpredictable;
 
-// 32 places that count, and 32 that don't.
+// 32 places that are used, and 32 that aren't.
 const COUNTED: &[bool; 64] = &[
     true, true, true, true, true, true, true, true, true, true, true, true, true, true, true, true,
     true, true, true, true, true, true, true, true, true, true, true, true, true, true, true, true,
@@ -18,7 +18,7 @@ const COUNTED: &[bool; 64] = &[
     false, false, false, false, false, false,
 ];
 
-// Whether a place is among the first `count`, looked up in a row of 32 times true and then 32 times false.
+// Whether a place is among the first `count` places. `row` is 32 times true and then 32 times false.
 #[inline(always)]
 fn counts_in(row: &[bool; 64], place: u8, count: u8) -> bool
     requires row { row.now ≡ replicate 32 true ++ replicate 32 false }
@@ -29,7 +29,7 @@ fn counts_in(row: &[bool; 64], place: u8, count: u8) -> bool
     row[32 - usize::from(count) + usize::from(place)]
 }
 
-// Whether a place is among the first `count`. This is looked up, not compared, so that the compiler looks up many at once.
+// Whether a place is among the first `count` places. This is a look-up and not a comparison, so that the compiler does many at once.
 #[inline(always)]
 fn counts(place: u8, count: u8) -> bool
     requires place { place < 32 }
@@ -65,8 +65,8 @@ pub fn prefix_numbers(row: &[u8; 32], count: u8) -> [u8; 32]
     out
 }
 
-/// The first `count` distances, followed by zeros. All places are written, so that the compiler writes many at once. As `count` is at
-/// most 16, the row has that many.
+/// The first `count` distances, followed by zeros. All places are written, so that the compiler writes many at once. `count` is at most 16, the
+/// length of the row.
 pub fn prefix_distances(row: &[u16; 16], count: u8) -> [u16; 16]
     requires { count ≤ 16 }
     ensures filled { result ≡ filled_up 16 0 (take count row.now) }
@@ -90,7 +90,7 @@ pub fn filled_numbers(row: &[u8]) -> [u8; 32]
     out
 }
 
-/// The greatest layers of each decode target of the structure, followed by `None`.
+/// The greatest spatial and temporal id of each decode target of the structure, followed by `None`.
 pub fn filled_pairs(structure: &Structure) -> [Option<Wish>; 32]
     ensures { result ≡ filled_up 32 None (pairs_below structure.now structure.now.target_count) }
 {

@@ -1,4 +1,4 @@
-// What is in force.
+// The state that is in force on a track.
 
 ghost use Rattle.std.specs.Prelude.{◌≡◌, ◌≤◌, ◌<◌, ◌+◌, ◌-◌, ◌^◌, IfSome, IfOk, Option, Some, is_some, option_copied, take, false, true};
 ghost use Rattle.sfu_base.specs.Frame.{IsValid};
@@ -23,16 +23,16 @@ use wrap_number::above;
 /// How a descriptor relates to the structure in force.
 #[derive(Clone, Copy, Debug, PartialEq, Eq)]
 pub enum Reading {
-    /// The descriptor begins a key frame: its structure is in force now.
+    /// The descriptor begins a key frame. Its structure is in force now.
     Key,
-    /// The descriptor is read with the structure in force.
+    /// The descriptor doesn't begin a key frame, and is read with the structure in force.
     Part,
-    /// The descriptor begins no key frame and carries a structure other than the one in force, so it isn't read.
+    /// The descriptor doesn't begin a key frame and carries a structure that differs from the one in force, so it isn't read.
     Unread,
 }
 
-/// The number of a whole frame isn't above the newest frame number, so the frame is ignored (own rule). A number is above another if it is
-/// 1 to 32,767 ahead of it, modulo 65,536.
+/// The number of a complete frame isn't above the newest frame number, so the frame is ignored (own rule). A number is above another number if
+/// it is 1 to 32,767 more, modulo 65,536.
 #[derive(Clone, Copy, Debug, PartialEq, Eq, Error)]
 #[error("the frame's number isn't above {newest}, the newest")]
 pub struct Stale {
@@ -40,11 +40,11 @@ pub struct Stale {
     pub newest: u64,
 }
 
-/// The parts of a frame's first descriptor from which the frame's meaning is made. In each array, as in the meaning, only the first entries
-/// count: one for each decode target, chain or reference.
+/// The parts of a frame's first descriptor from which the frame's meaning is made. Only the first entries of each array are used, as in the
+/// meaning: one for each decode target, chain or reference.
 #[derive(Clone, Copy, Debug, PartialEq, Eq)]
 pub struct FrameHead {
-    /// Whether the frame is a key frame: its first descriptor carries a structure and refers to nothing.
+    /// Whether the frame is a key frame: its first descriptor carries a structure and has no references.
     pub key: bool,
     /// The frame number modulo 65,536.
     pub number: u16,
@@ -54,19 +54,19 @@ pub struct FrameHead {
     pub temporal: u8,
     /// The frame's indication for each decode target.
     pub dtis: [Dti; 32],
-    /// How many frames back each chain's previous frame is, 0 where none is needed.
+    /// For each chain, the distance in frame numbers back to the chain's previous frame, or 0 if no previous frame is needed.
     pub links: [u8; 32],
-    /// How many frames this one refers to, at most 16.
+    /// How many frames this frame refers to, at most 16.
     pub ref_count: u8,
-    /// How many frames back each referenced frame is, 1 to 4,096 (frame_fdiff).
+    /// The distance in frame numbers back to each referenced frame, 1 to 4,096 (frame_fdiff).
     pub refs: [u16; 16],
 }
 
-/// What is in force on a layered track (RTP Payload Format For AV1, Appendix A; epochs and stale numbers are own rules).
+/// The state that is in force on a layered track (RTP Payload Format For AV1, Appendix A). The rules for epochs and stale numbers are own rules.
 #[derive(Debug, Drop)]
 pub struct FrameTable {
     structure: Option<Structure>,
-    // The targets and chains of the structure, with arrays filled up as in a frame's meaning.
+    // The targets and chains of the structure. The arrays are filled up as in a frame's meaning.
     target_count: u8,
     chain_count: u8,
     pairs: [Option<Wish>; 32],
@@ -77,7 +77,7 @@ pub struct FrameTable {
     newest: u64,
 }
 
-/// A placeholder, to be overwritten: no frame has this meaning.
+/// A placeholder that is to be overwritten. No frame has this meaning.
 pub const NO_MEANING: FrameMeaning = FrameMeaning {
     number: 0,
     start: 0,
@@ -96,7 +96,7 @@ pub const NO_MEANING: FrameMeaning = FrameMeaning {
     refs: [0; 16],
 };
 
-/// How far above the newest frame number a frame number may be, modulo 65,536. A number further ahead counts as behind.
+/// A frame number may be at most this far above the newest frame number, modulo 65,536. A number that is farther above counts as below the newest.
 const FARTHEST_AHEAD: u64 = 32767;
 
 impl Model for FrameTable {
@@ -113,7 +113,7 @@ impl Model for FrameTable {
 }
 
 impl FrameTable {
-    /// A table before the first key start: nothing is in force.
+    /// A table before the first key start, when nothing is in force.
     pub fn new() -> FrameTable
         ensures { result ≡ no_force }
     {
@@ -130,16 +130,16 @@ impl FrameTable {
         }
     }
 
-    /// The structure in force, or none before the first key start.
+    /// The structure in force, or `None` before the first key start.
     pub fn force(&self) -> Option<&Structure>
         ensures { option_copied result ≡ self.now.structure }
     {
         self.structure.as_ref()
     }
 
-    /// Processes the next descriptor, which was read with the structure in force. A key start (a descriptor with a structure, the start bit
-    /// and no references) puts its structure in force, begins an epoch and is numbered. Any other descriptor whose structure isn't the one
-    /// in force is `Unread` and changes nothing. The mask of a descriptor that is read is in force from then on.
+    /// Processes the next descriptor, which was read with the structure in force. A key start is a descriptor with a structure, the start bit and no
+    /// references. A key start puts its structure in force, begins an epoch, and sets the newest frame number. Any other descriptor with a structure that
+    /// differs from the one in force is `Unread` and changes nothing. If a descriptor that is read has a mask, the mask is in force from then on.
     pub fn see(&mut self, descriptor: &Descriptor) -> Reading
         requires read { IsReadBy self.old.structure descriptor.now }
         requires bound { IfSome self.old.structure (λ _. self.old.newest < 2 ^ 63) }
@@ -168,9 +168,9 @@ impl FrameTable {
         }
     }
 
-    /// Returns the meaning of a frame that has just become whole, by its first descriptor. Every descriptor of the frame was seen and
-    /// read. The frame's number becomes the newest. `Stale`: the number isn't above the newest, and nothing changes. This is
-    /// [`FrameTable::head`] and then [`FrameTable::whole_into`].
+    /// Returns the meaning of a frame that has just become complete. `first` is the frame's first descriptor. All descriptors of the frame must
+    /// have been passed to [`FrameTable::see`] and read. The frame's number becomes the newest. Returns `Stale` and changes nothing if the
+    /// number isn't above the newest. This call does the same as [`FrameTable::head`] and then [`FrameTable::whole_into`].
     pub fn whole(&mut self, first: &Descriptor) -> Result<FrameMeaning, Stale>
         requires first { IsFirst self.old first.now }
         requires bound { self.old.newest < 2 ^ 63 }
@@ -185,7 +185,7 @@ impl FrameTable {
         or_stale(is_whole, meaning, newest)
     }
 
-    /// The parts of a frame's first descriptor from which the frame's meaning is made: all that must be kept until the frame is whole.
+    /// Returns the parts of a frame's first descriptor from which the frame's meaning is made. Only these must be kept until the frame is complete.
     pub fn head(&self, first: &Descriptor) -> FrameHead
         requires { IsFirst self.now first.now }
         ensures head { result ≡ head_of (said_of self.now.structure first.now) }
@@ -196,8 +196,8 @@ impl FrameTable {
         self.fields(first, key)
     }
 
-    /// Writes the meaning of a frame that has just become whole to `out`, and makes the frame's number the newest. `head` is from the
-    /// frame's first descriptor. Returns false if the number isn't above the newest: the frame is then stale, and nothing changes.
+    /// Writes to `out` the meaning of a frame that has just become complete, and makes the frame's number the newest. `head` is from the
+    /// frame's first descriptor. Returns false and changes nothing if the frame is stale, that is, if its number isn't above the newest.
     pub fn whole_into(&mut self, head: &FrameHead, out: &mut FrameMeaning) -> bool
         requires structure { is_some self.old.structure ≡ true }
         requires references { HasReferences head.now }
@@ -235,7 +235,7 @@ impl FrameTable {
         }
     }
 
-    // A lemma, which does nothing: the structure in force is well-formed.
+    // A lemma, which does nothing at run time: the structure in force is well-formed.
     fn lemma_is_well_formed(&self)
         ensures { IfSome self.now.structure IsWellFormed }
     {
@@ -252,7 +252,7 @@ impl FrameTable {
         }
     }
 
-    // Begins an epoch at a key start with this structure, mask and frame number.
+    // Begins an epoch at a key start that has this structure, mask and frame number.
     fn begin_epoch(&mut self, structure: &Structure, mask: Option<u32>, number: u16)
         requires mask { IsMaskOf mask structure.now }
         requires carried { is_some mask ≡ true }
@@ -285,7 +285,7 @@ impl FrameTable {
         }
     }
 
-    // The unwrapped number of a whole frame with this head.
+    // The unwrapped number of a complete frame with this head, or `Stale` if it isn't above the newest.
     fn number(&self, head: &FrameHead) -> Result<u64, Stale>
         requires { self.now.newest < 2 ^ 63 }
         ensures number { result ≡ number_or_stale self.now head.now }
@@ -304,7 +304,7 @@ impl FrameTable {
         Ok(number)
     }
 
-    // What a frame of this number means.
+    // The meaning of a frame with this unwrapped number and this head.
     fn meaning(&self, number: u64, head: &FrameHead) -> FrameMeaning
         requires references { HasReferences head.now }
         requires start { self.now.start ≤ number }
@@ -331,7 +331,7 @@ impl FrameTable {
     }
 }
 
-// The meaning, if one was written, else `Stale`.
+// The meaning if `is_whole` is true, otherwise `Stale`.
 fn or_stale(is_whole: bool, meaning: FrameMeaning, newest: u64) -> Result<FrameMeaning, Stale>
     requires { is_whole ≡ true → IsValid meaning }
     ensures result { result ≡ written_or_stale is_whole meaning newest }

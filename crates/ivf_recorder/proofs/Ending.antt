@@ -1,4 +1,4 @@
--- What a recorder stands for after an accepted packet.
+-- What a recorder represents after an accepted packet.
 use Rattle.std.proofs.Common.{◌≡◌, ℕ, zero, suc, ◌+◌, Bool, true, false, cond, ◌&&◌, List, [], ◌∷◌, ◌++◌, length, map, get_or, Option, Some, None, refl, sym, ap, ap₂, subst, ◌∙◌, arith}
 use Rattle.std.specs.Option.{option_map, is_some}
 use Rattle.forwarding_model.specs.Receiver.{OpenFrame as ModelFrame, Reception, Receiver, complaint_of, ends_frame, is_content, receive, receive_all}

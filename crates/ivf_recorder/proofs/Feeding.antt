@@ -1,4 +1,4 @@
--- A recorder after one more packet, in any state it stands for.
+-- A recorder after one more packet, whatever it represents.
 use Rattle.std.proofs.Common.{◌≡◌, ℕ, ◌≤◌, Bool, true, false, ◌&&◌, List, [], ◌∷◌, ◌++◌, length, map, take, Option, Some, None, Err, refl, sym, ap, ap₂, subst, ◌∙◌}
 use Rattle.std.specs.Option.{is_some}
 use Rattle.std.proofs.lemmas.List.{map-append, take_at}
@@ -31,7 +31,7 @@ use Rattle.ivf_recorder.proofs.SmallUnits.{packet_pushed}
 
 -- ---- faults stay
 
--- what is recorded of frames is the same
+-- the recorded frames are the same
 pub record Keeps (old new : List WholeFrame) : Type 0 where
   pub sound : are_sound new ≡ are_sound old
   pub contents : contents_of new ≡ contents_of old

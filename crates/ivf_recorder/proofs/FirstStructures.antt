@@ -46,7 +46,7 @@ has_if : (b : Bool) (then : Receiver TemplateStructure) (s : Option TemplateStru
 has_if true then s h = h refl
 has_if false then s h = tt
 
--- a packet inside a frame is no start, so it brings no structure
+-- a packet inside a frame isn't a start, so it puts no structure in force
 no_start : (start rest : Bool) → (not start && rest) ≡ true → start ≡ false
 no_start false rest e = refl
 no_start true rest e = absurd cc
@@ -174,7 +174,7 @@ module _ (id : ℕ) where
 
   -- ---- the first packet
 
-  -- the descriptor by which a receiver that goes on has its structure
+  -- the descriptor from which a receiver without a complaint has its structure
   abbrev FirstReads : List ℕ → Receiver TemplateStructure → Type 0
   FirstReads rest Waiting = ⊥
   FirstReads rest (Receiving r) = (d : Descriptor TemplateStructure) × ((format_of id).descriptor None rest ≡ Reads d) × (is_key_start d ≡ true) × (r.structure ≡ d.structure)

@@ -21,7 +21,7 @@ laid_one element others old new lays = go (obus_of element) lays
     go None h = absurd h
     go (Some obus) h = ap (λ (x : List ℕ). laid_behind x (obus_in others)) h ∙ sym (laid_both old obus (obus_in others))
 
--- it comes after what was there
+-- it comes after the bytes that were there
 pub more_one : (o : Option (List Obu)) (start old new : List ℕ) → Lays true [] o old new → ((more : List ℕ) × (old ≡ start ++ more)) → (more : List ℕ) × (new ≡ start ++ more)
 more_one None start old new h before = absurd h
 more_one (Some obus) start old new h before =

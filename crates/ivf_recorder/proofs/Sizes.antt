@@ -1,4 +1,4 @@
--- How long units get: an OBU has at most five bytes more than its element, elements are parts of packets, and a frame has at most 512 packets.
+-- The largest length of units: an OBU has at most five bytes more than its element, elements are parts of packets, and a frame has at most 512 packets.
 use Rattle.std.proofs.Common.{◌≡◌, ℕ, zero, suc, ◌+◌, ◌-◌, ◌*◌, ◌/◌, ◌==◌, ◌<◌, ◌≤◌, Bool, true, false, cond, nat_lt, List, [], ◌∷◌, ◌++◌, length, map, take, drop, Option, Some, None, Result, Ok, Err, refl, ap, arith}
 use Rattle.std.specs.Option.{option_map}
 use Rattle.std.proofs.lemmas.Grind.{common_steps}
@@ -121,7 +121,7 @@ no_length : length_at [] ≡ None
 unfolding length_at groups_at
 no_length = refl
 
--- an element with its length before it
+-- an element preceded by its length
 front_takes : (bytes element behind : List ℕ) → sized_at bytes ≡ Ok (element, behind) → length element + length behind + 1 ≤ length bytes
 front_takes bytes element behind e = by_length (length_at bytes) refl e
   where

@@ -8,7 +8,7 @@ use Rattle.ivf_recorder.specs.Files.{IsFileOf}
 use Rattle.ivf_recorder.specs.Obus.{Obu, all_bytes}
 use Rattle.ivf_recorder.specs.Units.{RecordedFrame, TemporalUnit, Size, joins, next_time, units_of}
 
--- 0 if there is none, which is never so for a frame with a packet
+-- the timestamp, or 0 if there is none; a frame with a packet always has one
 abbrev pub timestamp_in : Option ℕ → ℕ
 timestamp_in None = 0
 timestamp_in (Some timestamp) = timestamp
@@ -16,7 +16,7 @@ timestamp_in (Some timestamp) = timestamp
 abbrev pub content : Option ℕ → List Obu → RecordedFrame
 content timestamp obus = record { timestamp = timestamp_in timestamp; bytes = all_bytes obus }
 
--- a frame with these OBUs is the last in the file now; or there are none, and the file is unchanged
+-- a frame with these OBUs was appended to the file; or there are no OBUs, and the file is unchanged
 abbrev pub Adds : Bool → Option ℕ → Option (List Obu) → Size → List RecordedFrame → IvfFile → Type 0
 Adds true timestamp None size contents new = ⊥
 Adds true timestamp (Some obus) size contents new = IsFileOf new size (contents ++ content timestamp obus ∷ [])
@@ -27,7 +27,7 @@ Adds false timestamp (Some obus) size contents new = ⊥
 abbrev pub BeginsUnit : List RecordedFrame → RecordedFrame → Type 0
 BeginsUnit contents next = (closed : List TemporalUnit) (unit : TemporalUnit) → units_of contents ≡ closed ++ unit ∷ [] → joins unit next ≡ false
 
--- a frame with these OBUs is the last of the newest unit now; or the unit would get too long, or there are none, and the file is unchanged
+-- a frame with these OBUs was appended to the newest unit; or the unit would get too long or there are no OBUs, and the file is unchanged
 abbrev pub Grows : Growth → Option ℕ → Option (List Obu) → Size → List RecordedFrame → IvfFile → Type 0
 Grows Grown timestamp None size contents new = ⊥
 Grows Grown timestamp (Some obus) size contents new = IsFileOf new size (contents ++ content timestamp obus ∷ [])
@@ -42,7 +42,7 @@ pub record IsNextTime (contents : List RecordedFrame) (timestamp time : ℕ) : T
   pub next : (closed : List TemporalUnit) (unit : TemporalUnit) (bytes : List ℕ) → units_of contents ≡ closed ++ unit ∷ []
       → time ≡ next_time unit (record { timestamp = timestamp; bytes = bytes })
 
--- the same newest unit, but for its bytes
+-- the same newest unit, except for its bytes
 pub record HasSameUnit (old new : IvfFile) : Type 0 where
   pub begun : new.begun ≡ old.begun
   pub at : new.at ≡ old.at
@@ -55,7 +55,7 @@ abbrev pub TellsUnitSize : ℕ → List ℕ → List ℕ → Type 0
 TellsUnitSize at old new = (front size rest : List ℕ) → old ≡ front ++ (size ++ rest) → length front ≡ at → length size ≡ 4
     → new ≡ front ++ (to_le_bytes w32 ((length old - at - 12) % 2 ^ 32) ++ rest)
 
--- the same, and the number of units is one higher
+-- the size of the newest unit is written, and the number of units is one higher
 abbrev pub TellsUnit : ℕ → ℕ → List ℕ → List ℕ → Type 0
 TellsUnit at count old new = (head counted middle size rest : List ℕ) → old ≡ head ++ (counted ++ (middle ++ (size ++ rest)))
     → length head ≡ 24 → length counted ≡ 4 → 28 + length middle ≡ at → length size ≡ 4

@@ -1,4 +1,4 @@
--- The recorded frames that the growing file stands for.
+-- The recorded frames that the file under construction represents.
 use Rattle.std.specs.Prelude.{◌≡◌, ◌+◌, ◌%◌, ◌^◌, ℕ, Bool, true, false, List, [], ◌∷◌, ◌++◌, length}
 use Rattle.std.specs.List.{flat_map}
 use Rattle.ivf_recorder.specs.declared.file.IvfFile.{IvfFile}
@@ -23,7 +23,7 @@ pub record IsFileOf (file : IvfFile) (size : Size) (contents : List RecordedFram
   pub count : file.count ≡ length (units_of contents) % 2 ^ 32
   pub newest : HasNewest file.begun file.timestamp file.time file.at contents
 
--- the same but for the capacity of its bytes
+-- the same file, except for the capacity of its vector
 pub record IsSameBut (old new : IvfFile) : Type 0 where
   pub bytes : new.bytes.items ≡ old.bytes.items
   pub begun : new.begun ≡ old.begun

@@ -9,8 +9,8 @@ use Rattle.packet_format.specs.Packets.{packet_of}
 use Rattle.ivf_recorder.specs.Frames.{size_over}
 use Rattle.ivf_recorder.specs.Units.{size_in}
 
--- The first of these packets has a descriptor that reads with no structure in force and begins a key frame. The width and height are those of
--- the highest spatial id in its structure.
+-- The first of these packets has a descriptor that can be read with no structure in force and begins a key frame. The width and height are
+-- those of the highest spatial id in its structure.
 pub record IsFirstSize (id : ℕ) (history : List (List ℕ)) : Type 0 where
   pub first : List ℕ
   pub later : List (List ℕ)

@@ -1,4 +1,4 @@
--- The frames that a strict receiver accepts from packets, and what is recorded of them. Own rules. The code stores no packet.
+-- The frames that a strict receiver accepts from some packets, and what is recorded of them. Own rules. The code stores no packet.
 use Rattle.std.specs.Prelude.{ℕ, ◌≤◌, Bool, true, false, ◌&&◌, if◌then◌else◌, List, [], ◌∷◌, ◌++◌, length, Option, Some, None, is_some}
 use Rattle.std.specs.List.{AllByRecursion}
 use Rattle.std.specs.Option.{option_map}
@@ -31,7 +31,7 @@ pub record Gathered : Type 0 where
 abbrev pub nothing_gathered : Gathered
 nothing_gathered = record { frames = []; unfinished = [] }
 
--- after an accepted packet, which ended its frame or left it open
+-- the gathered frames after an accepted packet, which ended its frame or left it open
 abbrev pub with_packet : Option OpenFrame → Option TemplateStructure → Gathered → List ℕ → Gathered
 with_packet None structure gathered packet = record {
   frames = gathered.frames ++ record { packets = gathered.unfinished ++ packet ∷ []; structure = structure } ∷ [];
@@ -39,19 +39,19 @@ with_packet None structure gathered packet = record {
 }
 with_packet (Some frame) structure gathered packet = record { frames = gathered.frames; unfinished = gathered.unfinished ++ packet ∷ [] }
 
--- after a packet, which left the receiver in this state
+-- the gathered frames after a packet, which left the receiver in this state
 abbrev pub gather : Receiver TemplateStructure → Gathered → List ℕ → Gathered
 gather Waiting gathered packet = gathered
 gather (Receiving r) gathered packet = with_packet r.frame r.structure gathered packet
 gather (Complaining complaint) gathered packet = gathered
 
--- after these packets, which come to this receiver with these frames gathered
+-- the gathered frames after these packets, for this receiver and these frames before
 abbrev pub gather_all : ℕ → Receiver TemplateStructure → Gathered → List (List ℕ) → Gathered
 gather_all id receiver gathered [] = gathered
 gather_all id receiver gathered (packet ∷ more) =
     gather_all id (receive (format_of id) receiver (read_packet packet)) (gather (receive (format_of id) receiver (read_packet packet)) gathered packet) more
 
--- after all these packets, the oldest first
+-- the gathered frames after all these packets, the oldest first
 abbrev pub gathered_over : ℕ → List (List ℕ) → Gathered
 gathered_over id history = gather_all id Waiting nothing_gathered history
 
@@ -70,7 +70,7 @@ abbrev pub before_fault : Option RecordedFrame → List RecordedFrame → List R
 before_fault None others = []
 before_fault (Some content) others = content ∷ others
 
--- the contents of the frames before the first frame that has such an element
+-- the contents of the frames before the first frame with an element that isn't an OBU
 abbrev pub contents_of : List WholeFrame → List RecordedFrame
 contents_of [] = []
 contents_of (frame ∷ frames) = before_fault (content_of frame) (contents_of frames)
@@ -81,7 +81,7 @@ are_sound (frame ∷ frames) = is_some (content_of frame) && are_sound frames
 
 -- ---- over packets' bytes, the oldest first
 
--- each has at most 2,048 bytes
+-- each packet has at most 2,048 bytes
 abbrev pub AreShort : List (List ℕ) → Type 0
 AreShort history = AllByRecursion (λ packet. length packet ≤ 2048) history
 
@@ -99,16 +99,16 @@ fault_by false complaint = Some fault.Obu
 fault_by true None = None
 fault_by true (Some complaint) = Some (fault.Complaint complaint)
 
--- The fault of these packets, if any: an element of a frame isn't an OBU, or the strict receiver complains. If both apply, it is the first of
--- these, since accepted frames come before the complaint.
+-- The fault of these packets, if there is one: an element of a frame isn't an OBU, or the strict receiver complains. If both are the case, the
+-- element is the fault, since accepted frames precede the complaint.
 abbrev pub fault_over : ℕ → List (List ℕ) → Option RecordFault
 fault_over id history = fault_by (are_sound (gathered_over id history).frames) (complaint_over id history)
 
--- the width and height that are recorded for them
+-- the width and height that are recorded for these packets
 abbrev pub size_over : ℕ → List (List ℕ) → Size
 size_over id history = size_in (structure_of (gathered_over id history).frames)
 
--- the file recorded from them
+-- the file that is recorded from these packets
 abbrev pub ivf_over : ℕ → List (List ℕ) → List ℕ
 ivf_over id history = ivf (size_over id history) (contents_over id history)
 

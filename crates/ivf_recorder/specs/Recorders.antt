@@ -1,4 +1,4 @@
--- The packets that a recorder stands for. Own rules.
+-- The packets that a recorder represents. Own rules.
 use Rattle.std.specs.Prelude.{◌≡◌, ℕ, List, [], ◌∷◌, ◌++◌, true, Option, Some, None, Result, Ok, Err}
 use Rattle.strict_receiver.specs.Receivers.{StandsFor as ReceiverStandsFor, complaint_over}
 use Rattle.ivf_recorder.specs.declared.fault.RecordFault.{RecordFault}
@@ -25,7 +25,7 @@ pub record GoesOn (now : Recording) (history : List (List ℕ)) : Type 0 where
   pub receiver : ReceiverStandsFor now.receiver history
   pub frame : Holds now.frame (gathered_over now.receiver.id history).unfinished
 
--- it was fed these packets, given as bytes, the oldest first
+-- the recorder was fed these packets, given as bytes, the oldest first
 pub record StandsFor (now : Recording) (history : List (List ℕ)) : Type 0 where
   pub fault : now.fault ≡ fault_over now.receiver.id history
   pub file : IsFileOf now.file (size_over now.receiver.id history) (contents_over now.receiver.id history)
@@ -44,8 +44,8 @@ pub record IsFed (mid : Recording) (history : List (List ℕ)) (packet : List �
 
 -- ---- results
 
--- Memory ran out, there was no fault before, and nothing changed. Or the fault of all packets is returned, if there is one, and the recorder
--- stands for all packets.
+-- Either memory ran out, there was no fault before, and nothing changed. Or the fault of all packets is returned, if there is one, and the
+-- recorder represents all packets.
 abbrev pub Feeds : Option RecordFault → ℕ → Recording → List (List ℕ) → List ℕ → Result (Unit {0}) RecordFault → Type 0
 Feeds before id new history packet (Ok _) = StandsFor new (history ++ packet ∷ []) × (fault_over id (history ++ packet ∷ []) ≡ None)
 Feeds before id new history packet (Err fault.NoMemory) = StandsFor new history × (before ≡ None)

@@ -1,7 +1,7 @@
--- An IVF file of AV1: a header, and temporal units, each with its size and its time. IVF has no standard; this is the form that `dav1d`, `ffmpeg`
--- and libvpx read; numbers are little-endian. A temporal unit begins with a temporal delimiter (AV1 Bitstream Specification, section
--- 7.5), and its frames have one RTP timestamp, of 90,000 ticks a second (RTP Payload Format For AV1, section 4.1). Where units end is an own
--- rule. The code stores the whole file, and rewrites the newest unit's size and the number of units when a frame ends.
+-- An IVF file of AV1: a header, and temporal units, each with its size and its time. There is no standard for IVF; this is the format that
+-- `dav1d`, `ffmpeg` and libvpx read. Numbers are little-endian. A temporal unit begins with a temporal delimiter (AV1 Bitstream Specification,
+-- section 7.5), and its frames have one RTP timestamp, of 90,000 ticks a second (RTP Payload Format For AV1, section 4.1). Where units end is
+-- an own rule. The code stores the whole file, and rewrites the newest unit's size and the number of units when a frame ends.
 use Rattle.std.specs.Prelude.{ℕ, ◌+◌, ◌-◌, ◌%◌, ◌^◌, ◌==◌, ◌&&◌, Bool, nat_le, if◌then◌else◌, List, [], ◌∷◌, ◌++◌, length, codes, Option, Some, None}
 use Rattle.std.specs.Int.{to_le_bytes, w16, w32, w64}
 use Rattle.std.specs.List.{flat_map}
@@ -9,7 +9,7 @@ use Rattle.dd_structure.specs.TemplateStructure.{TemplateStructure}
 
 -- ---- temporal units
 
--- what is recorded of a frame: its RTP timestamp, and the bytes of its OBUs
+-- a recorded frame: its RTP timestamp, and the bytes of its OBUs
 pub record RecordedFrame : Type 0 where
   pub timestamp : ℕ
   pub bytes : List ℕ
@@ -24,7 +24,7 @@ pub record TemporalUnit : Type 0 where
 abbrev pub delimiter : List ℕ
 delimiter = 18 ∷ 0 ∷ []
 
--- the most bytes of a unit of more than one frame (own rule)
+-- the largest number of bytes of a unit with more than one frame (own rule)
 abbrev pub most_unit : ℕ
 most_unit = 16777216
 
@@ -38,7 +38,7 @@ grown unit content = record { timestamp = unit.timestamp; time = unit.time; byte
 abbrev pub joins : TemporalUnit → RecordedFrame → Bool
 joins unit content = unit.timestamp == content.timestamp && nat_le (length unit.bytes + length content.bytes) most_unit
 
--- by how many ticks a timestamp is after another, modulo 2^32
+-- the number of ticks from one timestamp to a later one, modulo 2^32
 abbrev pub ticks_after : ℕ → ℕ → ℕ
 ticks_after before later = (later + 2 ^ 32 - before) % 2 ^ 32
 
@@ -46,13 +46,13 @@ ticks_after before later = (later + 2 ^ 32 - before) % 2 ^ 32
 abbrev pub next_time : TemporalUnit → RecordedFrame → ℕ
 next_time unit content = (unit.time + ticks_after unit.timestamp content.timestamp) % 2 ^ 64
 
--- the unit that continues with these frames, and the units after it
+-- the unit, continued with the first of these frames, and the units after it
 abbrev pub units_from : TemporalUnit → List RecordedFrame → List TemporalUnit
 units_from unit [] = unit ∷ []
 units_from unit (content ∷ more) =
     if joins unit content then units_from (grown unit content) more else unit ∷ units_from (begins (next_time unit content) content) more
 
--- the first unit's time is 0
+-- the units of these frames; the first unit's time is 0
 abbrev pub units_of : List RecordedFrame → List TemporalUnit
 units_of [] = []
 units_of (content ∷ more) = units_from (begins 0 content) more
@@ -71,7 +71,7 @@ pub record Size : Type 0 where
 abbrev pub no_size : Size
 no_size = record { width = 0; height = 0 }
 
--- the resolution of the highest spatial id, which is the last; 0 and 0 if there is none (own rule)
+-- the last resolution, which is that of the highest spatial id, or 0 and 0 if there is none (own rule)
 abbrev pub last_size : List (ℕ × ℕ) → Size
 last_size [] = no_size
 last_size (r ∷ []) = record { width = r.0; height = r.1 }

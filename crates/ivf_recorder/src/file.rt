@@ -1,4 +1,4 @@
-// The growing file.
+// The IVF file of a recording, to which frames are appended.
 ghost use Rattle.std.specs.Prelude.{◌≡◌, ◌+◌, ◌%◌, ◌^◌, ◌<◌, ◌≤◌, ◌++◌, length, ℕ, List, IfOk, OnOk, Some, [], true};
 ghost use Rattle.std.specs.Vec.{vec_capacity, vec_len};
 ghost use Rattle.std.specs.Int.{to_le_bytes, w32, w64};
@@ -8,10 +8,10 @@ use crate::frame::OpenFrame;
 use sfu_base::NoMemory;
 use std::alloc::Global;
 
-/// The most bytes of a unit of more than one frame, without the unit's header.
+/// The largest length of a unit with more than one frame, in bytes, without the unit's header.
 const MOST_UNIT: usize = 16_777_216;
 
-/// The offset of the width (two bytes) in the file header; the height (two bytes) follows it.
+/// The offset of the width (two bytes) in the file header. The height (two bytes) follows it.
 const SIZE_AT: usize = 12;
 
 /// The offset of the number of units (four bytes) in the file header.
@@ -20,7 +20,7 @@ const COUNT_AT: usize = 24;
 /// The length of a unit's header: size (4 bytes) and time (8 bytes).
 const UNIT_HEADER: usize = 12;
 
-/// The bytes of a new unit before its first frame: size (4), time (8), temporal delimiter (2).
+/// The number of bytes of a new unit before its first frame: size (4), time (8), temporal delimiter (2).
 const UNIT_FRONT: usize = 14;
 
 /// The file header, with width, height and number of units 0.
@@ -33,13 +33,13 @@ const HEADER: [u8; 32] = [
 #[derive(Clone, Copy)]
 pub enum Growth {
     Grown,
-    /// The unit would get too long; it is unchanged.
+    /// The unit would get too long, so it is unchanged.
     TooLong,
-    /// An element of the frame isn't an OBU; nothing changed.
+    /// An element of the frame isn't an OBU. Nothing changed.
     Unsound,
 }
 
-/// An IVF file with the frames so far.
+/// An IVF file with the frames recorded so far.
 #[derive(Drop)]
 pub struct IvfFile {
     pub bytes: Vec<u8>,
@@ -57,7 +57,7 @@ pub struct IvfFile {
     ghost unit: { at + 12 ≤ vec_len bytes },
 }
 
-// Overwrites the bytes from offset `at` on with these bytes.
+// Overwrites the bytes from offset `at` on with `new`.
 fn put_at(bytes: &mut Vec<u8>, at: usize, new: &[u8])
     requires within { at + length new.now ≤ vec_len bytes.old }
     ensures put { (front old rest : List ℕ) → bytes.old.items ≡ front ++ (old ++ rest) → length front ≡ at → length old ≡ length new.now
@@ -67,7 +67,7 @@ fn put_at(bytes: &mut Vec<u8>, at: usize, new: &[u8])
     bytes[at..at + new.len()].copy_from_slice(new);
 }
 
-// The bytes of a unit before its first frame: size (still 0), time and a temporal delimiter.
+// The bytes of a unit before its first frame: size (0 for now), time and a temporal delimiter.
 fn unit_front(time: u64) -> [u8; UNIT_FRONT]
     ensures { result ≡ to_le_bytes w32 0 ++ (to_le_bytes w64 time ++ delimiter) }
 {
@@ -83,7 +83,7 @@ impl IvfFile {
     ghost use Rattle.ivf_recorder.specs.Obus.{Obu, obus_in};
     ghost use Rattle.ivf_recorder.specs.Units.{RecordedFrame, Size, no_size};
 
-    /// A file with no frames.
+    /// A file without frames. Returns `NoMemory` if memory runs out.
     pub fn new(alloc: Global) -> Result<IvfFile, NoMemory>
         ensures { IfOk result (λ file. IsFileOf file no_size []) }
     {
@@ -97,7 +97,7 @@ impl IvfFile {
         })
     }
 
-    /// Reserves memory for a frame whose OBUs have at most `most` bytes. The file stays as it is.
+    /// Reserves memory for a frame whose OBUs have at most `most` bytes. The contents of the file don't change.
     pub fn reserve(&mut self, most: usize) -> Result<(), NoMemory>
         requires { UNIT_FRONT + most < 2 ^ 64 }
         ensures ok { OnOk result (vec_len self.new.bytes + (UNIT_FRONT + most) ≤ vec_capacity self.new.bytes) }
@@ -109,7 +109,7 @@ impl IvfFile {
         }
     }
 
-    /// Appends a frame; memory for it must be reserved. If an element of the frame isn't an OBU, returns false and changes nothing.
+    /// Appends a frame, for which memory must be reserved. If an element of the frame isn't an OBU, returns false and changes nothing.
     pub fn add(&mut self, frame: &OpenFrame) -> bool
         requires room { vec_len self.old.bytes + (UNIT_FRONT + most_bytes frame.now) ≤ vec_capacity self.old.bytes }
         ensures { (size : Size) (contents : List RecordedFrame) → IsFileOf self.old size contents
@@ -190,7 +190,7 @@ impl IvfFile {
         self.time.wrapping_add(u64::from(ticks))
     }
 
-    // Makes the unit at offset `at` the newest, and writes its size and the number of units.
+    // Makes the unit at offset `at` the newest one, and writes its size and the new number of units.
     fn begin(&mut self, at: usize, timestamp: u32, time: u64)
         requires within { at + UNIT_FRONT ≤ vec_len self.old.bytes }
         ensures told { TellsUnit at self.old.count self.old.bytes.items self.new.bytes.items }

@@ -8,18 +8,18 @@ use av1_payload::PayloadElements;
 use sfu_base::NoMemory;
 use std::alloc::Global;
 
-/// The elements of an unfinished frame's packets: their concatenated bytes, and the offsets (`cuts`) at which elements begin. Bytes before
-/// the first offset belong to an element that began before the frame; a frame that is accepted has no such bytes.
+/// The elements of an unfinished frame's packets. `bytes` has their bytes, concatenated, and `cuts` the offsets at which elements begin. Bytes
+/// before the first offset belong to an element that began before the frame. An accepted frame has no such bytes.
 #[derive(Drop)]
 pub struct OpenFrame {
-    /// The RTP timestamp of the frame's first packet, or `None` before it.
+    /// The RTP timestamp of the frame's first packet, or `None` before the first packet.
     pub timestamp: Option<u32>,
     pub bytes: Vec<u8>,
     pub cuts: Vec<usize>,
     ghost within: { are_cuts 0 cuts.items (vec_len bytes) ≡ true },
 }
 
-/// A point in an unfinished frame to go back to: its timestamp, and the lengths of its vectors.
+/// A state of an unfinished frame that can be restored: its timestamp, and the lengths of its vectors.
 #[derive(Clone, Copy)]
 pub struct Mark {
     pub timestamp: Option<u32>,
@@ -46,7 +46,7 @@ impl OpenFrame {
         }
     }
 
-    /// Appends the elements of the next packet. A packet that isn't RTP, or whose payload isn't well formed, changes nothing. After `NoMemory`
+    /// Appends the elements of the next packet. If the packet isn't RTP or its payload isn't well formed, nothing changes. After `NoMemory`,
     /// some of the elements may have been appended.
     pub fn take(&mut self, packet: &[u8]) -> Result<(), NoMemory>
         ensures taken { OnOk result (IsReadable packet.now → HasTaken self.old self.new packet.now) }
@@ -65,7 +65,7 @@ impl OpenFrame {
         Ok(())
     }
 
-    // Appends the elements of a packet. If `continues`, the first of them continues the last element so far.
+    // Appends the elements of a packet. If `continues` is true, the packet's first element continues the last element so far.
     fn append(&mut self, continues: bool, elements: PayloadElements) -> Result<(), NoMemory>
         ensures added { OnOk result (segments_in self.new ≡ add_elements continues (segments_in self.old) elements.entry) }
         ensures grown { Grown self.old self.new }
@@ -80,7 +80,7 @@ impl OpenFrame {
         Ok(())
     }
 
-    // Appends an element. If `goes_on`, appends the bytes to the last element instead.
+    // Appends an element. If `goes_on` is true, appends its bytes to the last element instead.
     fn add(&mut self, goes_on: bool, element: &[u8]) -> Result<(), NoMemory>
         ensures added { OnOk result (segments_in self.new ≡ with_element goes_on (segments_in self.old) element.now) }
         ensures grown { Grown self.old self.new }
@@ -93,7 +93,7 @@ impl OpenFrame {
         self.go_on(element)
     }
 
-    // Begins an element, with no bytes yet.
+    // Begins an element that has no bytes yet.
     fn begin(&mut self) -> Result<(), NoMemory>
         ensures begun { OnOk result (segments_in self.new ≡ segments_in self.old ++ [] ∷ []) }
         ensures grown { Grown self.old self.new }
@@ -117,7 +117,7 @@ impl OpenFrame {
         }
     }
 
-    /// Marks this point, for [`OpenFrame::back_to`].
+    /// Returns the current state, for [`OpenFrame::back_to`].
     pub fn mark(&self) -> Mark
         ensures timestamp { result.timestamp ≡ self.now.timestamp }
         ensures bytes { result.bytes ≡ vec_len self.now.bytes }
@@ -153,12 +153,12 @@ impl OpenFrame {
         self.bytes.clear();
     }
 
-    /// An upper bound of the number of bytes of the frame's OBUs with their size fields.
+    /// An upper bound of the number of bytes of the frame's OBUs, including their size fields.
     pub fn most_bytes(&self) -> usize
         ensures most { result ≡ most_bytes self.now }
         ensures small { result < 2 ^ 64 - 2 ^ 32 }
     {
-        // As slices, since these are known to have less than 2^63 bytes.
+        // Slices are used here because they are known to have fewer than 2^63 bytes.
         let bytes = self.bytes.as_slice();
         let cuts = self.cuts.as_slice();
         bytes.len() + (cuts.len() + 1) * MORE_BYTES

@@ -1,4 +1,4 @@
-// Theorems about the definitions.
+// Laws of the definitions.
 ghost use Rattle.std.specs.Prelude.{◌≡◌, ◌<◌, ◌^◌, [], List, length, ℕ};
 ghost use Rattle.std.specs.List.{AllByRecursion};
 ghost use Rattle.strict_receiver.specs.Receivers.{frames_over};
@@ -13,21 +13,21 @@ pub fn files_have_one_reading()
     ensures one { (bytes : List ℕ) (obus others : List Obu) → IsFileWith bytes obus → IsFileWith bytes others → obus ≡ others }
 {}
 
-/// A law: the file recorded from packets of at most 2,048 bytes each reads as the OBUs of the recorded frames, each once and in order. The size
-/// of each unit fits its field of four bytes.
+/// A law about packets of at most 2,048 bytes each: the file recorded from them is read as the OBUs of the recorded frames, each once and in
+/// order. The size of each unit fits into its field of four bytes.
 pub fn files_read_back()
     ensures read { (id : ℕ) (history : List (List ℕ)) → AreShort history → IsFileWith (ivf_over id history) (obus_over id history) }
     ensures sizes { (id : ℕ) (history : List (List ℕ)) → AreShort history
         → AllByRecursion (λ unit. length unit.bytes < 2 ^ 32) (units_of (contents_over id history)) }
 {}
 
-/// A law: the recorder gathers as many frames from packets as a strict receiver of them counts.
+/// A law: from any packets, the recorder gathers exactly the number of frames that a strict receiver of these packets counts.
 pub fn frames_are_those_that_are_accepted()
     ensures count { (id : ℕ) (history : List (List ℕ)) → length (gathered_over id history).frames ≡ frames_over id history }
 {}
 
-/// A law: if a frame is recorded, the first packet begins a key frame, and width and height are those of the template dependency structure in
-/// that packet. If no frame is recorded, both are 0.
+/// A law: if a frame is recorded, the first packet begins a key frame. The file's width and height are those of the template dependency
+/// structure in that packet. If no frame is recorded, width and height are 0.
 pub fn sizes_are_of_the_first_structure()
     ensures none { (id : ℕ) (history : List (List ℕ)) → contents_over id history ≡ [] → size_over id history ≡ no_size }
     ensures first { (id : ℕ) (history : List (List ℕ)) → (contents_over id history ≡ [] → ⊥) → IsFirstSize id history }

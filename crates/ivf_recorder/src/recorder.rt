@@ -7,9 +7,9 @@ use sfu_base::{Blob, NoMemory};
 use std::alloc::Global;
 use std::marker::Model;
 
-/// Records the packets of one layered AV1 track as an IVF file (own rule): the OBUs of the frames that a strict receiver accepts. Consecutive
-/// frames with the same RTP timestamp form a temporal unit; a unit of several frames has at most 16,777,216 bytes. Memory is allocated for the
-/// file, and for the elements of an unfinished frame.
+/// Records the packets of one layered AV1 track as an IVF file (own rule). The file has the OBUs of the frames that a strict receiver accepts.
+/// Consecutive frames with the same RTP timestamp form a temporal unit. A unit of several frames has at most 16,777,216 bytes. Memory is
+/// allocated for the file, and for the elements of an unfinished frame.
 #[derive(Drop)]
 pub struct IvfRecorder {
     recording: Recording,
@@ -29,7 +29,7 @@ impl IvfRecorder {
     ghost use Rattle.ivf_recorder.specs.Recorders.{Feeds, StandsFor};
     ghost use Rattle.ivf_recorder.specs.declared.fault.RecordFault.{RecordFault as FaultOf};
 
-    /// A recorder before its first packet. `id` is the header extension id of the dependency descriptors (RFC 8285).
+    /// A recorder before its first packet. `id` is the header extension id of the dependency descriptors (RFC 8285). Returns `NoMemory` if memory runs out.
     pub fn new(alloc: Global, id: u8) -> Result<IvfRecorder, NoMemory>
         ensures id { IfOk result (λ recorder. recorder.receiver.id ≡ id) }
         ensures stands { IfOk result (λ recorder. StandsFor recorder []) }
@@ -39,9 +39,9 @@ impl IvfRecorder {
         })
     }
 
-    /// Takes the next packet, of at most 2,048 bytes. `Complaint`: the strict receiver complains about the packet. `Obu`: the packet ends a
-    /// frame in which an element isn't an OBU; the frame isn't recorded. After one of these two, each call returns the same fault and changes
-    /// nothing. `NoMemory` is returned only if neither of them was returned before; it changes nothing.
+    /// Processes the next packet, of at most 2,048 bytes. Returns `Complaint` if the strict receiver complains about the packet. Returns `Obu`
+    /// if the packet ends a frame in which an element isn't an OBU. That frame isn't recorded. After one of these two faults, each call returns
+    /// the same fault and changes nothing. `NoMemory` changes nothing, and is only returned if there was no such fault before.
     pub fn feed(&mut self, packet: &[u8]) -> Result<(), RecordFault>
         requires { length packet.now ≤ 2048 }
         ensures id { self.new.receiver.id ≡ self.old.receiver.id }
@@ -53,7 +53,7 @@ impl IvfRecorder {
         self.recording.feed(packet)
     }
 
-    /// Returns the file of the frames so far, but for an unfinished frame and a frame in which an element isn't an OBU. Allocates no memory.
+    /// Returns the file of the frames so far, without an unfinished frame and without a frame in which an element isn't an OBU. Allocates no memory.
     pub fn finish(self) -> Blob
         ensures file { (history : List (List ℕ)) → StandsFor self history → result ≡ ivf_over self.receiver.id history }
         ensures reads { (history : List (List ℕ)) → StandsFor self history → IsFileWith result (obus_over self.receiver.id history) }

@@ -11,7 +11,7 @@ use sfu_base::{Blob, NoMemory};
 use std::alloc::Global;
 use strict_receiver::Receiver;
 
-/// A recording: the receiver that checks the packets, the elements of the unfinished frame, the file so far, and the first fault.
+/// The parts of a recording: the strict receiver of its packets, the elements of the unfinished frame, the file so far, and the first fault.
 #[derive(Drop)]
 pub struct Recording {
     pub receiver: Receiver,
@@ -42,7 +42,7 @@ impl Recording {
         })
     }
 
-    /// Takes the next packet. All memory is allocated before the receiver sees the packet, since the receiver can't undo a packet.
+    /// Processes the next packet. All memory is allocated before the receiver processes the packet, because the receiver can't undo this.
     pub fn feed(&mut self, packet: &[u8]) -> Result<(), RecordFault>
         requires { length packet.now ≤ 2048 }
         ensures id { self.new.receiver.id ≡ self.old.receiver.id }
@@ -79,7 +79,7 @@ impl Recording {
         self.file.reserve(self.frame.most_bytes())
     }
 
-    // Stores the fault; every later call returns it.
+    // Stores the fault, which every later call returns.
     fn fail(&mut self, fault: RecordFault) -> RecordFault
         ensures result { result ≡ fault }
         ensures fault { self.new.fault ≡ Some fault }
@@ -89,7 +89,7 @@ impl Recording {
         fault
     }
 
-    // Follows an accepted packet: if the packet ended a frame, appends the frame to the file.
+    // Finishes an accepted packet: if the packet ended a frame, appends the frame to the file.
     fn end_frame(&mut self) -> Result<(), RecordFault>
         requires room { vec_len self.old.file.bytes + (14 + most_bytes self.old.frame) ≤ vec_capacity self.old.file.bytes }
         ensures ends { (history : List (List ℕ)) (packet : List ℕ) → IsFed self.old history packet
@@ -120,7 +120,7 @@ impl Recording {
     }
 }
 
-// Width and height in pixels of the highest spatial id; 0 and 0 if no resolutions are known.
+// Width and height in pixels of the highest spatial id, or 0 and 0 if the structure has no resolutions.
 fn size(structure: Option<&Structure>) -> (u32, u32)
     ensures { size_in (option_copied structure.entry) ≡ record { width = result.0; height = result.1 } }
 {

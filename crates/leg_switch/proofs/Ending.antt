@@ -1,4 +1,4 @@
--- Each packet that is taken from the active leg goes out, so the last of them decides whether the last frame that goes out was ended.
+-- Each packet that is taken from the active leg is forwarded. So the last of them decides whether the last forwarded frame has ended.
 use Rattle.std.proofs.Common.{◌≡◌, ◌+◌, ◌%◌, ◌<◌, ◌^◌, ℕ, arith, Bool, true, false, List, [], ◌∷◌, ◌++◌, refl, sym, ap, ap₂, ◌∙◌, cond, true≢false, ◌&&◌, ◌||◌, eqb}
 use Rattle.std.specs.Prelude.{◌==◌}
 use Rattle.std.proofs.lemmas.Bool.{eq-eqb, eqb-true}
@@ -29,7 +29,7 @@ module _ (marks : Marks) where
   Telling None ended events = true ≡ true
   Telling (Some leg) ended events = Tells ended (taken_from leg events)
 
-  -- a packet of the active leg goes out
+  -- a packet of the active leg is forwarded
   sent_tells : (b : Bool) (taken : List (List ℕ)) (packet : List ℕ) → b ≡ true → Tells (marks.end packet) (cond b (taken ++ packet ∷ []) taken)
   sent_tells true taken packet e front last same = ap marks.end (last_is taken front packet last same)
   sent_tells false taken packet e front last same = absurd (true≢false (sym e))

@@ -1,4 +1,4 @@
--- Frame numbers that continue: what a forwarded packet's number is, that they go on over a change of leg, and that nothing else differs.
+-- Frame numbers that continue: the number of a forwarded packet, the numbers over a change of leg, and that nothing else differs.
 use Rattle.std.proofs.Common.{◌≡◌, ◌<◌, ◌≤◌, ◌+◌, ◌-◌, ◌*◌, ◌/◌, ◌%◌, ◌^◌, ◌==◌, ◌&&◌, ◌||◌, ℕ, Bool, true, false, cond, eqb, List, [], ◌∷◌, ◌++◌, length, map, take, drop, slice_index, Result, Ok, Err, refl, sym, ap, subst, ◌∙◌, arith, true≢false}
 use Rattle.std.specs.Prelude.{nat_le, option_map}
 use Rattle.std.proofs.lemmas.Bool.{and_parts, leb-true}
@@ -37,7 +37,7 @@ use Rattle.leg_switch.proofs.Renumbering.{no_place, renumbering}
 abbrev sent_as : (n ssrc timestamp : ℕ) → List ℕ → List ℕ
 sent_as n ssrc timestamp bytes = (sent n ssrc (stamped timestamp bytes)).bytes
 
--- of the first twelve bytes, the number of CSRCs and the extension flag stay; all behind them stays
+-- of the first twelve bytes, the number of CSRCs and the extension flag stay the same, and so do all bytes after them
 record IsSentAs (n ssrc timestamp : ℕ) (bytes : List ℕ) : Type 0 where
   place : (id : ℕ) → number_place id (sent_as n ssrc timestamp bytes) ≡ number_place id bytes
   behind : (q : ℕ) → drop (12 + q) (sent_as n ssrc timestamp bytes) ≡ drop (12 + q) bytes
@@ -98,7 +98,7 @@ ends_at id bytes e = by (number_place id bytes) refl (element_of id bytes) refl 
         let long = leb-true 3 (length v) (and_parts (nat_le 3 (length v)) (slice_index v 0 / 64 % 2 == 1) e).0 in
         absurd (omega (arith, long, no_place id bytes v is f))
 
--- a key start has one too
+-- a key start has a frame number too
 key_long : (v : List ℕ) (r : Result Content DdFault) → descriptor_at v None ≡ r → is_key_reading (reading_of r) ≡ true → 3 ≤ length v
 key_long v (Err e) is key = absurd (true≢false (sym key ∙ fault_key e))
 key_long v (Ok c) is key = by (head_at (bits_of_bytes v)) refl

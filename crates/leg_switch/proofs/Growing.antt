@@ -1,4 +1,4 @@
--- What went out is a prefix of what goes out later.
+-- The forwarded packets are a prefix of the packets forwarded later.
 use Rattle.std.proofs.Common.{◌≡◌, ◌+◌, ℕ, Bool, true, false, List, [], ◌∷◌, ◌++◌, sym, ap, ◌∙◌, cond, length, map}
 use Rattle.std.proofs.lemmas.List.{append-nil, append_assoc, map-append}
 use Rattle.out_ring.specs.Ring.{Pushed, Sent}

@@ -1,4 +1,4 @@
--- A descriptor with another frame number is read as the same descriptor but for the number.
+-- A descriptor with another frame number is read as the same descriptor, except for the number.
 use Rattle.std.proofs.Common.{◌≡◌, ◌<◌, ◌≤◌, ◌+◌, ◌*◌, ◌/◌, ◌%◌, ◌^◌, ℕ, Bool, true, false, cond, List, [], ◌∷◌, ◌++◌, length, take, drop, Result, Ok, Err, refl, sym, ap, ap₂, subst, ◌∙◌, arith, append_assoc, length-append}
 use Rattle.std.proofs.lemmas.List.{drop_at, take_at}
 use Rattle.std.specs.declared.option.Option.{Option}
@@ -56,7 +56,7 @@ length-eight h =
 grouped : (h : Head) (rest : List Bool) → flag_bits h.start ++ (flag_bits h.end ++ (bits_of 6 h.template ++ rest)) ≡ eight h ++ rest
 grouped h rest = simp append_assoc
 
--- two lists that are joined of parts of the same length have the same parts
+-- equal lists that are concatenated from parts of the same lengths have the same parts
 same_front : (n : ℕ) (a b c d : List Bool) → length a ≡ n → length c ≡ n → a ++ b ≡ c ++ d → a ≡ c
 same_front n a b c d la lc e = sym (take_at a b n la) ∙ ap (take n) e ∙ take_at c d n lc
 
@@ -78,7 +78,7 @@ one_byte : (b : ℕ) (rest : List ℕ) → bits_of_bytes (b ∷ rest) ≡ bits_o
 unfolding bits_of_bytes
 one_byte b rest = refl
 
--- of three bytes and more, the head that is read
+-- the head that is read from three or more bytes
 record IsHead (first high low : ℕ) (rest : List ℕ) (x : Head × List Bool) : Type 0 where
   front : bits_of 8 first ≡ eight x.0
   number : bits_of 8 high ++ bits_of 8 low ≡ bits_of 16 x.0.number
@@ -134,7 +134,7 @@ bind_numbered : {A : Type 0} (n : ℕ) (r : Result A DdFault) (f g : A → Resul
 bind_numbered n (Ok a) f g h = h a
 bind_numbered n (Err e) f g h = refl
 
--- what follows the head
+-- the bits after the head
 abbrev behind_head : ℕ → Option TemplateStructure → Head × List Bool → Result Content DdFault
 behind_head len force head = do
   flags ← flags_in len head.1
@@ -293,7 +293,7 @@ module _ (id : ℕ) (small : (force : Option TemplateStructure) (rest : List ℕ
           let shown_none : None ≡ Some d.number = number_shown bytes p force d payload reads e None none in
           absurd (let is : None ≡ Some d.number = shown_none in cc)
 
-  -- a packet with another frame number shows the same but for the number
+  -- a packet with another frame number shows the same, except for the number
   pub moves_there : (o place : ℕ) (bytes : List ℕ) (p : Packet) → read_packet bytes ≡ Some p → number_place id bytes ≡ Some place
       → Moves (format_of id) o p (read_packet (with_number place ((number_at place bytes + o) % 65536) bytes))
   moves_there o place bytes p reads at =

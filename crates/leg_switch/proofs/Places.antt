@@ -1,4 +1,4 @@
--- The frame number in a block: where it stands, and the block with another number there.
+-- The place of the frame number in a block, and the block with another number at this place.
 use Rattle.std.proofs.Common.{◌≡◌, ◌<◌, ◌≤◌, ◌+◌, ◌/◌, ◌%◌, ℕ, zero, suc, Bool, true, false, cond, eqb, List, [], ◌∷◌, ◌++◌, length, take, drop, refl, sym, ap, subst, ◌∙◌, arith}
 use Rattle.std.specs.Prelude.{◌||◌, nat_le, nat_lt}
 use Rattle.std.proofs.lemmas.Bool.{leb-false, leb-true, ltb-false}
@@ -23,7 +23,7 @@ with_next n q a xs = ap (λ (l : List ℕ). a ∷ (take q xs ++ big_bytes 2 n ++
 more_front : (front : List ℕ) (f q : ℕ) → length (f ∷ front) + q ≡ suc (length front + q)
 more_front front f q = omega arith
 
--- behind a prefix
+-- after a prefix
 pub with_push : (n : ℕ) (front : List ℕ) (q : ℕ) (xs : List ℕ) → with_number (length front + q) n (front ++ xs) ≡ front ++ with_number q n xs
 with_push n [] q xs = ap (λ (k : ℕ). with_number k n xs) (let e : 0 + q ≡ q = omega arith in e)
 with_push n (f ∷ front) q xs =
@@ -67,8 +67,8 @@ long_at (suc q) high low [] more e = absurd cc
 
 -- ---- a number at a place
 
--- Of these bytes, the value that is read has a number, which stands at this place. With another number there, the value has that number, and the place is
--- the same.
+-- In these bytes, the value that is read has a frame number, which is at this place. With another number at the place, the value has that
+-- number, and the place is the same.
 pub record IsPlaced (n : ℕ) (value : List ℕ → Option (List ℕ)) (place : List ℕ → Option ℕ) (p : ℕ) (xs : List ℕ) : Type 0 where
   pub first : ℕ
   pub high : ℕ
@@ -80,7 +80,7 @@ pub record IsPlaced (n : ℕ) (value : List ℕ → Option (List ℕ)) (place : 
   pub new_value : value (with_number p n xs) ≡ Some (first ∷ (big_bytes 2 n ++ rest))
   pub new_place : place (with_number p n xs) ≡ Some p
 
--- behind a prefix that the reader passes over
+-- after a prefix that the reader skips
 module _ (n : ℕ) (front xs : List ℕ) (value value' : List ℕ → Option (List ℕ)) (place place' : List ℕ → Option ℕ)
     (same_value : (ys : List ℕ) → length ys ≡ length xs → value' (front ++ ys) ≡ value ys) (same_place : (ys : List ℕ) → length ys ≡ length xs → place' (front ++ ys) ≡ after (length front) (place ys)) where
   moved_on : (q : ℕ) → IsPlaced n value place q xs → IsPlaced n value' place' (length front + q) (front ++ xs)

@@ -1,4 +1,4 @@
--- A strict receiver of what a bundle sends agrees with that of its active leg's packets, but for source, number and frame numbers.
+-- A strict receiver of a bundle's forwarded packets agrees with one of its active leg's packets, except for source, number and frame numbers.
 use Rattle.std.proofs.Common.{◌≡◌, ◌⊎◌, inl, inr, ◌+◌, ◌%◌, ◌<◌, ◌^◌, ℕ, arith, Bool, true, false, List, [], ◌∷◌, ◌++◌, refl, sym, subst, ap, ◌∙◌, cond, true≢false, ◌&&◌, ◌||◌, map, length, eqb}
 use Rattle.std.specs.Prelude.{◌==◌}
 use Rattle.std.proofs.lemmas.Bool.{and_parts, eq-eqb, eqb-true, eqb-false}
@@ -29,13 +29,13 @@ or_false false b e = refl
 
 -- ---- how a bundle sends
 
--- the offset of the active leg's frame numbers after these events, what becomes of a packet before it is stamped, and the packets that are forwarded
+-- the offset of the active leg's frame numbers after these events, a packet before it gets its timestamp, and the forwarded packets
 pub record Sending : Type 0 where
   pub offset : List LegEvent → ℕ
   pub packet : List LegEvent → ℕ → List ℕ → List ℕ
   pub pushes : List LegEvent → List Pushed
 
--- a packet shows the same as p, but for a frame number that is moved by this offset
+-- a packet shows the same as p, except that its frame number is moved by this offset
 pub record Moves {S : Type 0} (format : Format S) (o : ℕ) (p : Packet) (came : Option Packet) : Type 0 where
   pub packet : Packet
   pub reads : came ≡ Some packet
@@ -76,7 +76,7 @@ module _ {S : Type 0} (format : Format S) (read : List ℕ → Option Packet) (m
 
   -- ---- the invariant
 
-  -- the receiver of what goes out, which expects the next number, and that of the active leg
+  -- the receiver of the forwarded packets, which expects the next number, and that of the active leg
   record IsLike (o : ℕ) (ended : Bool) (pushes : List Pushed) (leg : Receiver S) : Type 0 where
     of_leg : Reception S
     of_sends : Reception S
@@ -237,7 +237,7 @@ module _ {S : Type 0} (format : Format S) (read : List ℕ → Option Packet) (m
   pleased n None ended pushes legs h = ap complaint_of h
   pleased n (Some k) ended pushes legs h = ap complaint_of h.sends_is
 
-  -- there is no complaint about all that goes out
+  -- there is no complaint about the forwarded packets
   pub all_pleases : (events : List LegEvent) → ((leg : ℕ) → complaint_of (leg_after leg events) ≡ None) → complaint_of (after_all (sent_of (w.pushes events))) ≡ None
   all_pleases events calm =
       pleased (w.offset events) (standing marks events).active (standing marks events).ended (w.pushes events) (λ k. leg_after k events) (holds events calm)
@@ -249,7 +249,7 @@ module _ {S : Type 0} (format : Format S) (read : List ℕ → Option Packet) (m
       (ap complaint_of (sym (one_more xs y))
       ∙ front_calm (xs ++ y ∷ []) ys (ap (λ (l : List (List ℕ)). complaint_of (after_all l)) (append_assoc xs (y ∷ []) ys) ∙ h))
 
-  -- nor about any prefix of it
+  -- there is no complaint about any prefix of them
   pub fronts_please : (events : List LegEvent) → ((leg : ℕ) → complaint_of (leg_after leg events) ≡ None)
       → (sends queued : List (List ℕ)) → sends ++ queued ≡ sent_of (w.pushes events) → complaint_of (after_all sends) ≡ None
   fronts_please events calm sends queued e =

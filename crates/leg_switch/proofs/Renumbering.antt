@@ -1,4 +1,4 @@
--- A packet with another frame number is the same packet, and its descriptor is the same but for the number.
+-- A packet with another frame number is the same packet, and its descriptor is the same, except for the number.
 use Rattle.std.proofs.Common.{◌≡◌, ◌<◌, ◌≤◌, ◌+◌, ◌*◌, ◌/◌, ◌%◌, ◌==◌, ℕ, zero, suc, Bool, true, false, List, [], ◌∷◌, ◌++◌, length, take, drop, slice_index, refl, sym, ap, subst, ◌∙◌, arith}
 use Rattle.std.proofs.lemmas.Bool.{le-ltb, ltb-false}
 use Rattle.std.proofs.lemmas.List.{drop-drop, drop_at, length-take-le, take-append-drop, take_at}
@@ -70,7 +70,7 @@ same_extension n q (a ∷ b ∷ c ∷ []) there within = absurd (omega (arith, l
 
 -- ---- the fixed header and the CSRC list
 
--- the same first byte, and behind the CSRC list the number at its place there
+-- the same first byte, and after the CSRC list the number at its place
 record SameHeader (n q : ℕ) (old new : List ℕ) : Type 0 where
   first : slice_index new 0 ≡ slice_index old 0
   behind : behind_csrcs new ≡ with_number (4 + q) n (behind_csrcs old)
@@ -106,7 +106,7 @@ same_header n q (a ∷ b ∷ c ∷ d ∷ e ∷ f ∷ g ∷ h ∷ i ∷ j ∷ k �
     }
 same_header n q old long = absurd (omega (arith, long))
 
--- ---- where the number of a packet stands
+-- ---- the place of a packet's frame number
 
 record IsFound (id p : ℕ) (bytes : List ℕ) : Type 0 where
   profile : ℕ

@@ -20,7 +20,7 @@ pub after_zero : (o : Option ℕ) → after 0 o ≡ o
 after_zero None = refl
 after_zero (Some p) = ap Some (omega arith)
 
--- bytes that belong to the value of the element before are skipped
+-- bytes that belong to the value of the previous element are skipped
 one_skips : (id k : ℕ) (xs : List ℕ) → one_byte_place id k xs ≡ after k (one_byte_place id 0 (drop k xs))
 unfolding one_byte_place
 one_skips id zero xs = sym (after_zero (one_byte_place id 0 xs))
@@ -37,7 +37,7 @@ two_skips id (suc k) (x ∷ xs) =
 
 -- ---- one step
 
--- the element that these bytes begin with: its length with a header of this length, and the place of the frame number in it or behind it
+-- the element at the start of these bytes: its length with a header of this length, and the place of the frame number in it or after it
 pub record IsStep (place : List ℕ → Option ℕ) (id header : ℕ) (xs : List ℕ) (e : PlainElement) : Type 0 where
   pub long : header + length e.value ≤ length xs
   pub found : eqb e.id id ≡ true → place xs ≡ after header (place_in_value (length e.value))
@@ -153,9 +153,9 @@ within_block id profile p xs e = by (form_of profile) e
     by None e = absurd cc
     by (Some form) e = let at = placed id 0 form xs p e in long_at p at.high at.low xs at.more at.at
 
--- ---- the walk over a block: what the rest of it says
+-- ---- the elements of a block: what follows from its remaining bytes
 
--- behind the bytes that were passed, the place in the rest is the place in the block
+-- the place in the block is the place in the remaining bytes, plus the number of bytes before them
 abbrev pub IsOn : (id profile : ℕ) → List ℕ → List ℕ → Type 0
 IsOn id profile block rest = (length rest ≤ length block) × (after (length block - length rest) (place_by id (Some profile) rest) ≡ place_by id (Some profile) block)
 
@@ -232,7 +232,7 @@ module _ (id profile : ℕ) (block rest behind : List ℕ) (head : ℕ) (on : Is
   pub shorter : (later : List ℕ) (n : ℕ) → 0 < n → later ≡ drop n rest → length later < length rest
   shorter later n some is_later = let len : length later ≡ length rest - n = ap length is_later ∙ length-drop n rest in omega (arith, len, rest_long)
 
--- at first
+-- at the start
 pub begins_on : (id profile : ℕ) (block : List ℕ) → IsOn id profile block block
 begins_on id profile block = (
   omega arith,

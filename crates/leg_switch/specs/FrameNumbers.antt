@@ -1,6 +1,6 @@
--- Frame numbers that continue over a change of leg. Own rule, over the dependency descriptor's frame_number (AV1 RTP payload format, Appendix A:
--- 16 bits after the descriptor's first byte), which stands in an element of the header extension (RFC 8285). Lists of events have the newest first.
--- The code goes from element to element and overwrites two bytes in place; it stores none of these lists.
+-- Frame numbers that continue over a change of leg. Own rule, over the dependency descriptor's frame_number (AV1 RTP payload format, Appendix
+-- A: 16 bits after the descriptor's first byte). The descriptor is in an element of the header extension (RFC 8285). Lists of events have the
+-- newest first. The code jumps from element to element and overwrites two bytes in place; it stores none of these lists.
 use Rattle.std.specs.Prelude.{◌+◌, ◌-◌, ◌*◌, ◌/◌, ◌%◌, ◌==◌, nat_le, nat_lt, ℕ, zero, suc, List, [], ◌∷◌, ◌++◌, length, map, take, drop}
 use Rattle.std.specs.Prelude.{if◌then◌else◌, Option, None, Some, option_map}
 use Rattle.byteorder.specs.Endian.{big_bytes}
@@ -16,9 +16,9 @@ use Rattle.leg_switch.specs.Marks.{Marks}
 use Rattle.leg_switch.specs.Switching.{LegEvent, goes_out, is_active, stamped, standing, timestamp_at}
 use Rattle.leg_switch.specs.Switching.LegEvent.{Chose, Took}
 
--- ---- where a packet's frame number stands
+-- ---- the place of a packet's frame number
 
--- this many bytes further on
+-- the place that is this number of bytes farther on
 abbrev pub after : ℕ → Option ℕ → Option ℕ
 after n None = None
 after n (Some place) = Some (n + place)
@@ -27,8 +27,8 @@ after n (Some place) = Some (n + place)
 abbrev pub place_in_value : ℕ → Option ℕ
 place_in_value count = if nat_le 3 count then Some 1 else None
 
--- How many bytes of a block stand before the frame number: the one in the first element with this id. The first `skipped` bytes still belong to
--- the value of the element before. There is none if there is no such element, or if its value has fewer than three bytes.
+-- The index in a block at which the frame number begins, which is in the first element with this id. The first `skipped` bytes still belong to
+-- the value of the previous element. None if there is no such element, or if its value has fewer than three bytes.
 unfoldable pub one_byte_place : (id skipped : ℕ) → List ℕ → Option ℕ
 one_byte_place id skipped [] = None
 one_byte_place id (suc skipped) (byte ∷ rest) = after 1 (one_byte_place id skipped rest)
@@ -52,7 +52,7 @@ abbrev pub place_in : Form → ℕ → List ℕ → Option ℕ
 place_in OneByte id block = one_byte_place id 0 block
 place_in TwoByte id block = two_byte_place id 0 block
 
--- a block whose profile selects no form has no elements
+-- a block whose profile stands for no form has no elements
 abbrev pub place_if : Option Form → ℕ → List ℕ → Option ℕ
 place_if None id block = None
 place_if (Some form) id block = place_in form id block
@@ -65,8 +65,8 @@ place_by id (Some profile) block = place_if (form_of profile) id block
 abbrev pub header_of : ℕ → ℕ
 header_of profile = if profile == 0xBEDE then 1 else 2
 
--- How many bytes of a packet stand before the frame number. The block follows the fixed header, the CSRC list, and the extension's profile and length
--- (RFC 3550, section 5.3.1).
+-- The index in a packet at which the frame number begins. The block follows the fixed header, the CSRC list, and the extension's profile and
+-- length (RFC 3550, section 5.3.1).
 unfoldable pub number_place : ℕ → List ℕ → Option ℕ
 number_place id packet = after (16 + 4 * csrc_count packet) (place_by id (profile_of packet) (block_of packet))
 
@@ -86,26 +86,26 @@ with_number place number packet = take place packet ++ big_bytes 2 number ++ dro
 
 -- ---- which number
 
--- what is added to the frame numbers of the active leg, modulo 65,536, and the frame number of the last packet that was forwarded with one
+-- the offset that is added to the frame numbers of the active leg, modulo 65,536, and the frame number of the last forwarded packet that had one
 pub record Numbering : Type 0 where
   pub offset : ℕ
   pub last : ℕ
 
--- before any packet
+-- the numbering before the first packet
 abbrev pub not_numbered : Numbering
 not_numbered = record { offset = 0; last = 0 }
 
--- The offset of a leg that becomes active with a frame of this number. It is 0 for the first leg; for a later one it makes this frame's number the last
--- forwarded one plus 1.
+-- The offset of a leg that becomes active with a frame of this number. It is 0 for the first leg. For a later leg, the offset is such that this
+-- frame's number becomes the last forwarded one plus 1.
 abbrev pub number_offset_for : Option ℕ → ℕ → ℕ → ℕ
 number_offset_for None last own = 0
 number_offset_for (Some active) last own = (last + 1 + (65536 - own)) % 65536
 
--- the offset for a packet of this leg, where `active` is the leg that was active before
+-- the offset for a packet of this leg; `active` is the leg that was active before
 abbrev pub number_offset_at : Option ℕ → Numbering → ℕ → ℕ → ℕ
 number_offset_at active n leg own = if is_active leg active then n.offset else number_offset_for active n.last own
 
--- after a packet whose own frame number is this one was forwarded
+-- the numbering after a packet with this own frame number was forwarded
 abbrev pub after_number : Option ℕ → Numbering → ℕ → ℕ → Numbering
 after_number active n leg own =
     record { offset = number_offset_at active n leg own; last = (own + number_offset_at active n leg own) % 65536 }
@@ -114,7 +114,7 @@ abbrev pub numbered_at : Option ℕ → Numbering → ℕ → Option ℕ → Lis
 numbered_at active n leg None packet = n
 numbered_at active n leg (Some place) packet = after_number active n leg (number_at place packet)
 
--- after this packet was forwarded; one without a frame number changes nothing
+-- the numbering after this packet was forwarded; a packet without a frame number changes nothing
 abbrev pub after_forwarded : ℕ → Option ℕ → Numbering → ℕ → List ℕ → Numbering
 after_forwarded id active n leg packet = numbered_at active n leg (number_place id packet) packet
 
@@ -132,7 +132,7 @@ abbrev pub renumbered_at : Option ℕ → ℕ → List ℕ → List ℕ
 renumbered_at None number packet = packet
 renumbered_at (Some place) number packet = with_number place number packet
 
--- the packet with this frame number; one without a frame number stays the same
+-- the packet with this frame number; a packet without a frame number stays the same
 abbrev pub renumbered : ℕ → ℕ → List ℕ → List ℕ
 renumbered id number packet = renumbered_at (number_place id packet) number packet
 

@@ -1,4 +1,4 @@
--- What follows from the definitions of `Switching`. Own statements.
+-- Laws of the definitions of `Switching`. Own statements.
 use Rattle.std.specs.Prelude.{◌≡◌, ◌+◌, ◌%◌, ◌<◌, ◌^◌, ◌++◌, ℕ, List, [], ◌∷◌, map, true, false, Option, None, Some}
 use Rattle.dd_structure.specs.TemplateStructure.{TemplateStructure}
 use Rattle.forwarding_model.specs.Receiver.{complaint}
@@ -19,13 +19,14 @@ use Rattle.leg_switch.specs.Switching.LegEvent.{Chose, Took}
 abbrev pub IsPleased : ℕ → List (List ℕ) → Type 0
 IsPleased id packets = complaint (format_of id) (map read_packet packets) ≡ None
 
--- If it has none about the packets taken from each leg, before the bundle was made and since, it has none about any prefix of the forwarded packets.
+-- If a strict receiver has no complaint about the packets taken from each leg, before and after the bundle was made, it has none about any prefix
+-- of the forwarded packets.
 abbrev pub BundlesPlease : Type 0
 BundlesPlease = (id first ssrc : ℕ) (before : ℕ → List (List ℕ)) (events : List LegEvent) → ssrc < 2 ^ 32
     → ((leg : ℕ) → IsPleased id (before leg ++ taken_from leg events))
     → (sends queued : List (List ℕ)) → sends ++ queued ≡ outgoing (marks_of id) first ssrc events → IsPleased id sends
 
--- The same for a bundle whose frame numbers continue.
+-- The same law for a bundle whose frame numbers continue.
 abbrev pub RenumberedBundlesPlease : Type 0
 RenumberedBundlesPlease = (id first ssrc : ℕ) (before : ℕ → List (List ℕ)) (events : List LegEvent) → ssrc < 2 ^ 32
     → ((leg : ℕ) → IsPleased id (before leg ++ taken_from leg events))
@@ -33,7 +34,7 @@ RenumberedBundlesPlease = (id first ssrc : ℕ) (before : ℕ → List (List ℕ
 
 -- ---- changes of leg
 
--- If the last packet taken from the active leg ended its frame, a key start of the chosen leg is forwarded: no other packet prevents the change of
+-- A key start of the chosen leg is forwarded if the last packet taken from the active leg ended its frame. Nothing else prevents the change of
 -- leg.
 abbrev pub KeyStartsGoOut : Type 0
 KeyStartsGoOut = (marks : Marks) (events : List LegEvent) (active chosen : ℕ) (front : List (List ℕ)) (last key : List ℕ)
@@ -47,8 +48,8 @@ ChangesStep = (active last own : ℕ) → own < 2 ^ 32 → (own + offset_for (So
 
 -- ---- frame numbers that continue
 
--- The frame number of a packet is the one that a track or a receiver reads: the frame_number of the descriptor that the packet shows with the structure
--- in force.
+-- The frame number of a packet is the one that a track or a receiver reads: the frame_number of the packet's descriptor, read with the
+-- structure in force.
 abbrev pub FrameNumbersAreRead : Type 0
 FrameNumbersAreRead = (id : ℕ) (packet : List ℕ) (read : Packet) (force : Option TemplateStructure) (d : Descriptor TemplateStructure) (payload : Payload)
     → read_packet packet ≡ Some read → shown (format_of id) force read.rest ≡ Shows d payload → frame_number_of id packet ≡ Some d.number
@@ -70,28 +71,28 @@ pub record GoesOn (id : ℕ) (before now : List (List ℕ)) : Type 0 where
   pub last_number : frame_number_of id last ≡ Some number
   pub key_number : frame_number_of id key ≡ Some ((number + 1) % 65536)
 
--- When a leg becomes active after another, the frame numbers go on: they rise by 1, which is less than half a turn of 65,536.
+-- When a leg becomes active after another leg, the frame numbers continue: they rise by 1, so the new number counts as above the old one modulo 65,536.
 abbrev pub NumbersGoOn : Type 0
 NumbersGoOn = (id first ssrc : ℕ) (past : List LegEvent) (leg active : ℕ) (packet : List ℕ) → AreRtp (Took leg packet ∷ past)
     → (standing (marks_of id) past).active ≡ Some active → is_active leg (Some active) ≡ false
     → goes_out (marks_of id) (standing (marks_of id) past) leg packet ≡ true
     → GoesOn id (outgoing_renumbered (marks_of id) id first ssrc past) (outgoing_renumbered (marks_of id) id first ssrc (Took leg packet ∷ past))
 
--- the packets are the same one by one, but for the two bytes of their frame numbers
+-- packet by packet, the lists differ only in the two bytes of the frame numbers
 abbrev pub DifferInNumbers : ℕ → List (List ℕ) → List (List ℕ) → Type 0
 DifferInNumbers id [] [] = Unit {0}
 DifferInNumbers id [] (other ∷ others) = ⊥
 DifferInNumbers id (packet ∷ packets) [] = ⊥
 DifferInNumbers id (packet ∷ packets) (other ∷ others) = ((number : ℕ) × (other ≡ renumbered id number packet)) × DifferInNumbers id packets others
 
--- A bundle whose frame numbers continue forwards what it would forward otherwise, but for the frame numbers.
+-- A bundle whose frame numbers continue forwards the packets that it would forward otherwise, except for their frame numbers.
 abbrev pub OnlyNumbersDiffer : Type 0
 OnlyNumbersDiffer = (id first ssrc : ℕ) (events : List LegEvent) → AreRtp events
     → DifferInNumbers id (outgoing (marks_of id) first ssrc events) (outgoing_renumbered (marks_of id) id first ssrc events)
 
 -- ---- growth
 
--- The forwarded packets only grow: they are a prefix of those that are forwarded later, whatever happens.
+-- The forwarded packets only grow: whatever happens, they are a prefix of the packets forwarded by any later time.
 abbrev pub OutgoingGrows : Type 0
 OutgoingGrows = (marks : Marks) (first ssrc : ℕ) (later events : List LegEvent)
     → (more : List (List ℕ)) × (outgoing marks first ssrc (later ++ events) ≡ outgoing marks first ssrc events ++ more)

@@ -18,12 +18,12 @@ pub data LegEvent : Type 0 where
 
 pub record Standing : Type 0 where
   pub chosen : ℕ
-  pub active : Option ℕ  -- none until a packet goes out
-  pub offset : ℕ  -- what is added to the timestamps of the active leg
-  pub ended : Bool  -- the last packet that went out ended its frame
-  pub timestamp : ℕ  -- that of the last packet that went out
+  pub active : Option ℕ  -- none before the first forwarded packet
+  pub offset : ℕ  -- this is added to the timestamps of the active leg
+  pub ended : Bool  -- whether the last forwarded packet ended its frame
+  pub timestamp : ℕ  -- the timestamp of the last forwarded packet
 
--- at first leg 1 is chosen
+-- the standing at the beginning: leg 1 is chosen
 abbrev pub begun : Standing
 begun = record { chosen = 1; active = None; offset = 0; ended = false; timestamp = 0 }
 
@@ -36,12 +36,12 @@ abbrev pub may_change : Option ℕ → Bool → Bool
 may_change None ended = true
 may_change (Some active) ended = ended
 
--- The packet is forwarded: its leg is active; or its leg is chosen and may become active, and the packet is a key start.
+-- A packet is forwarded if its leg is active, or if its leg is chosen and may become active, and the packet is a key start.
 abbrev pub goes_out : Marks → Standing → ℕ → List ℕ → Bool
 goes_out marks s leg packet = is_active leg s.active || (s.chosen == leg && (may_change s.active s.ended && marks.key packet))
 
--- The offset of a leg that becomes active with a packet of this timestamp. It is 0 for the first leg; for a later one it makes this packet's
--- timestamp the last forwarded one plus 3,000.
+-- The offset of a leg that becomes active with a packet of this timestamp. It is 0 for the first leg. For a later leg, the offset is such that
+-- this packet's timestamp becomes the last forwarded one plus 3,000.
 abbrev pub offset_for : Option ℕ → ℕ → ℕ → ℕ
 offset_for None last own = 0
 offset_for (Some active) last own = (last + 3000 + (2 ^ 32 - own)) % 2 ^ 32
@@ -84,14 +84,14 @@ passed marks (Took leg packet ∷ past) =
     then passed marks past ++ stamped (timestamp_at (standing marks past) leg packet) packet ∷ []
     else passed marks past
 
--- All forwarded packets, drawn or queued. The i-th packet, counted from 0, has the first number plus i, modulo 65,536, and the bundle's SSRC. Only
--- the number, the SSRC and the timestamp differ from the packet that was taken.
+-- All forwarded packets, whether they were already taken from the bundle or are queued. The i-th packet, counted from 0, has the first number
+-- plus i, modulo 65,536, and the bundle's SSRC. Only the number, the SSRC and the timestamp differ from the packet that was taken from the leg.
 abbrev pub outgoing : Marks → (first ssrc : ℕ) → List LegEvent → List (List ℕ)
 outgoing marks first ssrc events = map (λ packet. packet.bytes) (numbered first ssrc (passed marks events))
 
 -- ---- what was taken
 
--- from this leg
+-- the packets that were taken from this leg
 abbrev pub taken_from : ℕ → List LegEvent → List (List ℕ)
 taken_from leg [] = []
 taken_from leg (Chose other ∷ past) = taken_from leg past

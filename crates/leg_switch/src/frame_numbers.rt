@@ -24,13 +24,13 @@ const ONE_BYTE_PROFILE: u16 = 0xBEDE;
 /// The length of the mandatory descriptor fields, in bytes (AV1 RTP payload format, Appendix A).
 const MANDATORY: usize = 3;
 
-/// Frame numbers that continue over a change of leg: those of the active leg plus an offset, modulo 65,536. The offset of the first leg is 0. At a
-/// change of leg the new leg gets an offset with which its first frame follows the last forwarded frame.
+/// Frame numbers that continue over a change of leg: the frame numbers of the active leg plus an offset, modulo 65,536. The offset of the first
+/// leg is 0. At a change of leg, the offset is chosen so that the new leg's first frame number is the last forwarded one plus 1.
 #[derive(Debug, Drop)]
 pub struct FrameNumbers {
-    // Added to the frame numbers of the active leg, modulo 65,536.
+    // The number that is added to the frame numbers of the active leg, modulo 65,536.
     offset: u16,
-    // The frame number of the last packet that was forwarded with one.
+    // The frame number of the last forwarded packet that had a frame number.
     last: u16,
 }
 
@@ -47,16 +47,16 @@ impl FrameNumbers {
     ghost use Rattle.rtp_packet.specs.Faults.{first_fault};
     ghost use Rattle.leg_switch.specs.FrameNumbers.{after_forwarded, not_numbered, number_offset_for, renumbered};
 
-    /// No packet was forwarded yet.
+    /// The state before the first forwarded packet.
     pub fn new() -> FrameNumbers
         ensures { result ≡ not_numbered }
     {
         FrameNumbers { offset: 0, last: 0 }
     }
 
-    /// Gives a forwarded packet, which was taken from `leg`, its frame number. The packet must be a valid RTP packet. `active` is the leg that was active
-    /// before, counted from 1. `id` is the header extension id of the packet's dependency descriptor (RFC 8285). Only the two bytes of the frame number
-    /// change; a packet without a descriptor of at least three bytes stays as it is.
+    /// Overwrites the frame number of a forwarded packet, which was taken from `leg`. The packet must be a valid RTP packet. `active` is the
+    /// leg that was active before this packet; legs count from 1. `id` is the header extension id of the packet's dependency descriptor (RFC
+    /// 8285). Only the two bytes of the frame number change. A packet without a descriptor of at least three bytes is unchanged.
     pub fn renumber(&mut self, id: u8, active: Option<u8>, leg: u8, packet: &mut PacketBuf)
         requires { first_fault packet.old ≡ None }
         ensures numbers { self.new ≡ after_forwarded id active self.old leg packet.old }
@@ -77,7 +77,7 @@ impl FrameNumbers {
         packet.overwrite(place, &field);
     }
 
-    // The offset that a leg gets when a frame with this number makes it active.
+    // The offset of a leg that a frame with the number `own` makes active.
     fn offset_for(&self, active: Option<u8>, own: u16) -> u16
         ensures { result ≡ number_offset_for active self.now.last own }
     {
@@ -96,7 +96,7 @@ impl Default for FrameNumbers {
     }
 }
 
-// The 16-bit number that these bytes begin with.
+// The 16-bit number at the start of these bytes.
 fn number_in(bytes: &[u8]) -> u16
     requires { 2 ≤ length bytes.now }
     ensures { result ≡ value (take 16 (bits_of_bytes bytes.now)) }
@@ -104,7 +104,7 @@ fn number_in(bytes: &[u8]) -> u16
     BigEndian::read_u16(bytes)
 }
 
-// How many bytes of a packet stand before its frame number, if it has one.
+// The index in a packet at which its frame number begins, or `None` if it has no frame number.
 fn number_place(packet: &[u8], id: u8) -> Option<usize>
     requires { first_fault packet.now ≡ None }
     ensures place { result ≡ number_place id packet.now }
@@ -118,7 +118,7 @@ fn number_place(packet: &[u8], id: u8) -> Option<usize>
     Some(FIXED_HEADER + csrcs + EXTENSION_HEADER + place)
 }
 
-// How many bytes of a header extension's block stand before the frame number, if the block has one.
+// The index in a header extension's block at which the frame number begins, or `None` if the block has no frame number.
 fn place_in_block(profile: u16, block: &[u8], id: u8) -> Option<usize>
     ensures place { result ≡ place_by id (Some profile) block.now }
     ensures there { IfSome result (λ place. place + 2 ≤ length block.now) }
@@ -145,7 +145,7 @@ fn place_in_block(profile: u16, block: &[u8], id: u8) -> Option<usize>
     None
 }
 
-// The length of an element's header in the form that a profile selects (RFC 8285, sections 4.2 and 4.3).
+// The length in bytes of an element's header, in the form that a profile selects (RFC 8285, sections 4.2 and 4.3).
 fn header_len(profile: u16) -> usize
     ensures { result ≡ header_of profile }
 {

@@ -1,13 +1,13 @@
-// What follows from the definitions of what is forwarded.
+// Laws of the definitions of what is forwarded.
 ghost use Rattle.leg_switch.specs.Laws.{BundlesPlease, ChangesStep, FrameNumbersAreRead, KeyStartsGoOut, NumbersGoOn, OnlyNumbersDiffer, OutgoingGrows, RenumberedBundlesPlease, RenumberedGrows};
 
-/// Suppose that a strict receiver has no complaint about the packets taken from each leg, before the bundle was made and since. Then it has none
-/// about the forwarded packets, nor about any prefix of them.
+/// Suppose that a strict receiver has no complaint about the packets taken from each leg, before and after the bundle was made. Then it has no
+/// complaint about the forwarded packets, nor about any prefix of them.
 pub fn bundles_please_receivers()
     ensures { BundlesPlease }
 {}
 
-/// If the last packet taken from the active leg ended its frame, a key start of the chosen leg is forwarded.
+/// A key start of the chosen leg is forwarded if the last packet taken from the active leg ended its frame.
 pub fn key_starts_go_out_between_frames()
     ensures { KeyStartsGoOut }
 {}
@@ -27,19 +27,19 @@ pub fn renumbered_bundles_please_receivers()
     ensures { RenumberedBundlesPlease }
 {}
 
-/// If frame numbers continue, then at a change of leg they rise by 1, modulo 65,536: the first packet of the new leg has the frame number of the packet
-/// forwarded before it, plus 1.
+/// If frame numbers continue, they rise by 1, modulo 65,536, at a change of leg. The first packet of the new leg has the frame number of the
+/// packet forwarded before it, plus 1.
 pub fn frame_numbers_go_on()
     ensures { NumbersGoOn }
 {}
 
-/// The two bytes that are overwritten are the frame number that a track or a receiver reads: a packet that shows a descriptor has the descriptor's
-/// frame number.
+/// The two bytes that are overwritten are the frame number that a track or a receiver reads. In a packet whose descriptor can be read, they are
+/// the descriptor's frame number.
 pub fn frame_numbers_are_read()
     ensures { FrameNumbersAreRead }
 {}
 
-/// If frame numbers continue, each forwarded packet is the one that would be forwarded otherwise, but for the two bytes of its frame number.
+/// If frame numbers continue, each forwarded packet differs from the one that would be forwarded otherwise only in the two bytes of its frame number.
 pub fn only_frame_numbers_differ()
     ensures { OnlyNumbersDiffer }
 {}

@@ -1,6 +1,6 @@
-//! A bundle merges several streams, its legs, into one. This crate decides which packets of the legs are forwarded, and with which timestamps. One
-//! leg is forwarded at a time. The leg changes only between whole frames, at a key frame. Where asked, the packets get frame numbers that continue
-//! over a change of leg. No call allocates memory.
+//! A bundle merges several streams, its legs, into one. This crate decides which packets of the legs are forwarded, and with which timestamps.
+//! One leg is forwarded at a time. The leg changes only between complete frames, at a key frame. On request, the packets get frame numbers that
+//! continue over a change of leg. No call allocates memory.
 #![tactic(auto)]
 
 mod frame_numbers;

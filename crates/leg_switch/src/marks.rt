@@ -1,4 +1,4 @@
-// What the switch reads from a packet of a leg: whether it is a key start, and whether it ends its frame.
+// Two properties of a packet of a leg: whether it is a key start, and whether it ends its frame.
 ghost use Rattle.std.specs.Prelude.{◌≡◌, None};
 ghost use Rattle.rtp_packet.specs.Faults.{first_fault};
 ghost use Rattle.leg_switch.specs.Marks.{ends_frame, starts_key};
@@ -6,8 +6,8 @@ ghost use Rattle.leg_switch.specs.Marks.{ends_frame, starts_key};
 use dd_descriptor::{NewestDescriptor, edges};
 use packet_format::{begins_epoch, descriptor_bytes};
 
-/// Whether a packet is a key start: its descriptor carries a template dependency structure and has start_of_frame set, and its frame refers
-/// to no other frame (AV1 RTP payload format, Appendix A). Afterwards the content of `newest` is unspecified.
+/// Whether a packet is a key start (AV1 RTP payload format, Appendix A). Then its descriptor carries a template dependency structure and has
+/// start_of_frame set, and its frame refers to no other frame. The contents of `newest` are unspecified afterwards.
 pub fn starts_key(packet: &[u8], id: u8, newest: &mut NewestDescriptor) -> bool
     requires { first_fault packet.now ≡ None }
     ensures { result ≡ starts_key id packet.now }
@@ -24,7 +24,7 @@ pub fn starts_key(packet: &[u8], id: u8, newest: &mut NewestDescriptor) -> bool
     }
 }
 
-/// Whether a packet ends its frame: end_of_frame, the second bit of its descriptor (AV1 RTP payload format, Appendix A).
+/// Whether a packet ends its frame. This is end_of_frame, the second bit of its descriptor (AV1 RTP payload format, Appendix A).
 pub fn ends_frame(packet: &[u8], id: u8) -> bool
     requires { first_fault packet.now ≡ None }
     ensures { result ≡ ends_frame id packet.now }

@@ -1,4 +1,4 @@
-// Which leg is forwarded.
+// Decides which leg is forwarded.
 ghost use Rattle.std.specs.Prelude.{◌≡◌, None};
 ghost use Rattle.rtp_packet.specs.Faults.{first_fault};
 ghost use Rattle.leg_switch.specs.Switching.{begun};
@@ -7,19 +7,19 @@ use crate::marks::{ends_frame, starts_key};
 use dd_descriptor::NewestDescriptor;
 use std::marker::Model;
 
-/// How far the forwarded timestamp rises at a change of leg, in ticks of the RTP clock (own rule).
+/// The forwarded timestamp rises by this number of ticks of the RTP clock at a change of leg (own rule).
 const STEP: u32 = 3000;
 
-/// The chosen leg and the active leg of a bundle; legs are counted from 1. The packets of the active leg are forwarded. A key start of the
-/// chosen leg makes that leg active, but only if no packet was forwarded yet or the last forwarded packet ended its frame. At a change of
-/// leg the forwarded timestamp rises by 3,000.
+/// The chosen leg and the active leg of a bundle. Legs count from 1. The packets of the active leg are forwarded. A key start of the chosen leg
+/// makes that leg active, but only if no packet has been forwarded yet or the last forwarded packet ended its frame. At a change of leg, the
+/// forwarded timestamp rises by 3,000.
 #[derive(Debug, Drop)]
 pub struct Switch {
     chosen: u8,
     active: Option<u8>,
-    // Added to the timestamps of the active leg, modulo 2^32.
+    // The number that is added to the timestamps of the active leg, modulo 2^32.
     offset: u32,
-    // Of the last forwarded packet: whether it ended its frame, and the timestamp that it was forwarded with.
+    // Whether the last forwarded packet ended its frame, and the timestamp with which it was forwarded.
     ended: bool,
     timestamp: u32,
 }
@@ -58,7 +58,7 @@ impl Switch {
         self.chosen
     }
 
-    /// The active leg, counted from 1, or `None` until a packet is forwarded.
+    /// The active leg, counted from 1, or `None` before the first packet is forwarded.
     pub fn active(&self) -> Option<u8>
         ensures { result ≡ self.now.active }
     {
@@ -72,9 +72,9 @@ impl Switch {
         self.chosen = leg;
     }
 
-    /// Decides whether a packet taken from `leg` is forwarded. The packet must be a valid RTP packet. Returns the timestamp to forward it with,
-    /// or `None` if it is dropped. `id` is the header extension id of the packet's dependency descriptor (RFC 8285). `newest` is working
-    /// memory; afterwards its content is unspecified.
+    /// Decides whether a packet taken from `leg` is forwarded. The packet must be a valid RTP packet. Returns the timestamp with which the
+    /// packet is to be forwarded, or `None` if it is to be dropped. `id` is the header extension id of the packet's dependency descriptor (RFC
+    /// 8285). `newest` is working memory. Its contents are unspecified afterwards.
     pub fn pass(
         &mut self,
         id: u8,
@@ -102,14 +102,14 @@ impl Switch {
         Some(self.timestamp)
     }
 
-    // Whether a key start of this leg would make it active, if it isn't yet.
+    // Whether a key start of this leg would make the leg active, if it isn't active yet.
     fn may_change_to(&self, leg: u8) -> bool
         ensures { result ≡ (self.now.chosen == leg && may_change self.now.active self.now.ended) }
     {
         self.chosen == leg && (self.active.is_none() || self.ended)
     }
 
-    // The offset that a leg gets when a packet with this timestamp makes it active.
+    // The offset of a leg that a packet with this timestamp makes active.
     fn offset_for(&self, timestamp: u32) -> u32
         ensures { result ≡ offset_for self.now.active self.now.timestamp timestamp }
     {

@@ -1,5 +1,5 @@
-// Packets of two legs, and which of them are forwarded. The expected timestamps are worked out by hand: the packet's own timestamp plus the
-// leg's offset; at a change of leg, the last forwarded timestamp plus 3,000.
+// Packets of two legs, and which of them are forwarded. The expected timestamps were worked out by hand. Each timestamp is the packet's own
+// plus the leg's offset or, at a change of leg, the last forwarded timestamp plus 3,000.
 
 use crate::{FrameNumbers, Switch};
 use dd_descriptor::NewestDescriptor;
@@ -9,9 +9,9 @@ use std::test::Fail;
 
 #[test]
 fn legs_change_between_frames_at_key_frames(rt: HostRuntime) -> Result<(), Fail> {
-    // The chosen leg, the leg that the packet was taken from, the packet, and the timestamp that it is forwarded with (`None`: dropped).
+    // The chosen leg, the leg of the packet, the packet, and the timestamp with which it is forwarded (`None`: it is dropped).
     let rows: [(u8, u8, &[u8], Option<u32>); 17] = [
-        // a key frame of a leg that is not chosen, then a packet of the chosen leg that begins no key frame
+        // a key frame of a leg that isn't chosen, then a packet of the chosen leg that doesn't begin a key frame
         (
             1,
             2,
@@ -37,7 +37,7 @@ fn legs_change_between_frames_at_key_frames(rt: HostRuntime) -> Result<(), Fail>
             b"\x90\xe0\x00\x01\x00\x00\x00\x64\x44\x44\x44\x44\xbe\xde\x00\x03\x48\xc0\x00\x01\x80\x00\x3a\x41\x01\x00\x00\x00\x18\x30\x00",
             None,
         ),
-        // leg 2 is chosen in the midst of a frame of leg 1
+        // leg 2 is chosen in the middle of a frame of leg 1
         (
             1,
             1,
@@ -56,7 +56,7 @@ fn legs_change_between_frames_at_key_frames(rt: HostRuntime) -> Result<(), Fail>
             b"\x90\xe0\x00\x04\x00\x00\x00\x08\x11\x11\x11\x11\xbe\xde\x00\x01\x42\x41\x00\x04\x90\x00\x00",
             Some(8),
         ),
-        // a frame of leg 2 that is no key frame, then a key frame: 3,000 after 8
+        // a frame of leg 2 that isn't a key frame, then a key frame, whose timestamp is 8 plus 3,000
         (
             2,
             2,
@@ -82,7 +82,7 @@ fn legs_change_between_frames_at_key_frames(rt: HostRuntime) -> Result<(), Fail>
             b"\x90\xe0\x00\x05\x00\x00\x00\x66\x44\x44\x44\x44\xbe\xde\x00\x01\x42\xc1\x00\x05\x10\x30\x00",
             Some(3010),
         ),
-        // back to leg 1, whose timestamps wrap around: it gets a new offset
+        // leg 1 becomes active again; its timestamps wrap around, and it has a new offset
         (
             1,
             1,
@@ -95,7 +95,7 @@ fn legs_change_between_frames_at_key_frames(rt: HostRuntime) -> Result<(), Fail>
             b"\x90\xe0\x00\x07\x00\x00\x00\x04\x11\x11\x11\x11\xbe\xde\x00\x01\x42\xc1\x00\x07\x10\x30\x00",
             Some(6020),
         ),
-        // a packet without a descriptor, and one with only two bytes of it: both are forwarded, since their leg is active, and end no frame
+        // a packet without a descriptor, and one with a descriptor of only two bytes: both are forwarded, since their leg is active, and neither ends a frame
         (
             2,
             1,
@@ -149,7 +149,7 @@ fn a_leg_is_chosen_and_becomes_active(rt: HostRuntime) {
 
 #[test]
 fn frame_numbers_continue_over_a_change_of_leg(rt: HostRuntime) -> Result<(), Fail> {
-    // The leg that was active before (0: none), the leg of the packet, the packet, and the packet as it is forwarded.
+    // The leg that was active before (0: none), the leg of the packet, the packet, and the forwarded packet.
     let rows: [(u8, u8, &[u8], &[u8]); 9] = [
         // the first leg keeps its frame numbers: 0xfffe and 0xffff
         (
@@ -164,21 +164,21 @@ fn frame_numbers_continue_over_a_change_of_leg(rt: HostRuntime) -> Result<(), Fa
             b"\x90\x60\x00\x03\x00\x00\x00\x08\x11\x11\x11\x11\xbe\xde\x00\x01\x42\x81\xff\xff\x50\x30\x00",
             b"\x90\x60\x00\x03\x00\x00\x00\x08\x11\x11\x11\x11\xbe\xde\x00\x01\x42\x81\xff\xff\x50\x30\x00",
         ),
-        // leg 2 becomes active with 0x1234: it follows 0xffff, modulo 65,536
+        // leg 2 becomes active at its frame 0x1234, which is forwarded as 0xffff plus 1, modulo 65,536
         (
             1,
             2,
             b"\x90\xe0\x00\x04\x00\x00\x00\x64\x44\x44\x44\x44\xbe\xde\x00\x03\x48\xc0\x12\x34\x80\x00\x3a\x41\x01\x00\x00\x00\x18\x30\x00",
             b"\x90\xe0\x00\x04\x00\x00\x00\x64\x44\x44\x44\x44\xbe\xde\x00\x03\x48\xc0\x00\x00\x80\x00\x3a\x41\x01\x00\x00\x00\x18\x30\x00",
         ),
-        // its later frames keep their distances, here in the two-byte form behind a CSRC, another element and padding
+        // later frames of leg 2 keep their distances; here the descriptor has the two-byte form, and follows a CSRC, another element and padding
         (
             2,
             2,
             b"\x91\x60\x00\x05\x00\x00\x00\x65\x44\x44\x44\x44\x01\x02\x03\x04\x10\x00\x00\x03\x07\x02\x04\x03\x00\x04\x03\xc1\x12\x36\x00\x00\x10\x30\x00",
             b"\x91\x60\x00\x05\x00\x00\x00\x65\x44\x44\x44\x44\x01\x02\x03\x04\x10\x00\x00\x03\x07\x02\x04\x03\x00\x04\x03\xc1\x00\x02\x00\x00\x10\x30\x00",
         ),
-        // packets without a frame number stay as they are: no header extension, another element, a descriptor of two bytes
+        // packets without a frame number are unchanged: no header extension, another element, a descriptor of two bytes
         (
             2,
             2,
@@ -197,7 +197,7 @@ fn frame_numbers_continue_over_a_change_of_leg(rt: HostRuntime) -> Result<(), Fa
             b"\x90\x60\x00\x08\x00\x00\x00\x68\x44\x44\x44\x44\xbe\xde\x00\x01\x41\xc0\x12\x00\x10\x30\x00",
             b"\x90\x60\x00\x08\x00\x00\x00\x68\x44\x44\x44\x44\xbe\xde\x00\x01\x41\xc0\x12\x00\x10\x30\x00",
         ),
-        // back to leg 1, whose numbers are lower now: 0x0001 follows 0x0002
+        // leg 1 becomes active again at its frame 0x0001, after 0x0002 was forwarded
         (
             2,
             1,

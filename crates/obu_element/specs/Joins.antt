@@ -2,12 +2,12 @@
 -- packets have the oldest first. The code stores the last Y.
 use Rattle.std.specs.Prelude.{◌≡◌, Bool, false, List, [], ◌∷◌, ◌++◌}
 
--- Z: the packet's first element continues the last element of the packet before. Y: its last element continues in the next packet.
+-- Z: the packet's first element continues the last element of the previous packet. Y: its last element continues in the next packet.
 pub record Flags : Type 0 where
   pub continues : Bool
   pub carries : Bool
 
--- no element is unfinished before the first packet, and each packet has Z set exactly when the packet before has Y set
+-- no element is unfinished before the first packet, and each packet has Z set exactly if the previous packet has Y set
 pub record AreJoined (packets : List Flags) : Type 0 where
   pub first : (p : Flags) (more : List Flags) → packets ≡ p ∷ more → p.continues ≡ false
   pub next : (front more : List Flags) (p q : Flags) → packets ≡ front ++ p ∷ q ∷ more → q.continues ≡ p.carries

@@ -1,6 +1,6 @@
--- The place of each field of an OBU header (AV1 Bitstream Specification, sections 5.3.2 and 5.3.3), and the
--- faults for which bytes don't begin with a header. A field of a few bits is a quotient and a remainder of its
--- byte. Past the end of the bytes each byte counts as 0. The code reads a field only if it is known to be there.
+-- The place of each field of an OBU header (AV1 Bitstream Specification, sections 5.3.2 and 5.3.3), and the reasons why bytes don't begin with
+-- a header. A field of a few bits is a quotient and a remainder of its byte. After the end of the bytes, each byte counts as 0. The code reads
+-- a field only if it is known to be there.
 use Rattle.std.specs.Prelude.{ℕ, ◌/◌, ◌%◌, ◌==◌, nat_le, Bool, false, if◌then◌else◌, List, [], ◌∷◌, slice_index, Option, Some, None}
 use Rattle.obu_element.specs.declared.obu_header.ObuHeader.{ObuHeader}
 use Rattle.obu_element.specs.declared.obu_header.ObuFault.{ObuFault}

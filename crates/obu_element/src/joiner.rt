@@ -1,4 +1,4 @@
-// Checks that an OBU element which one packet leaves unfinished continues in the next packet.
+// Checks that a packet continues an OBU element exactly if the previous packet left one unfinished.
 
 ghost use Rattle.std.specs.Prelude.{◌≡◌, ◌≢◌, ◌↔◌, ◌++◌, ◌∷◌, [], IfErr, List, OnErr, OnOk, false, not, true};
 ghost use Rattle.obu_element.specs.Joins.{AreJoined, Flags, IsAfter, Join};
@@ -6,18 +6,19 @@ ghost use Rattle.obu_element.specs.Joins.{AreJoined, Flags, IsAfter, Join};
 use std::marker::Model;
 use thiserror::Error;
 
-/// A packet doesn't continue where the packet before it ended: one of these two flags is set, and the other isn't.
+/// The elements of two consecutive packets don't join: one of these two flags is set, and the other isn't.
 #[derive(Clone, Copy, Debug, PartialEq, Eq, Error)]
 #[error("the packet's Z is {continues}, and the former Y {carried}")]
 pub struct JoinFault {
-    /// Y of the packet before: whether that packet's last element continues in the next one. False before the first packet.
+    /// Y of the previous packet: whether that packet's last element continues in the next packet. False before the first packet.
     pub carried: bool,
-    /// Z of this packet: whether its first element continues the last element of the packet before.
+    /// Z of this packet: whether its first element continues the last element of the previous packet.
     pub continues: bool,
 }
 
-/// Checks that the elements of a frame's packets join (RTP Payload Format For AV1, section 4.4): each packet's Z is Y of the packet before.
-/// Contracts see a joiner as one flag, whether an element is unfinished: Y of the last packet that joined, or false before the first.
+/// Checks that the elements of a frame's packets join (RTP Payload Format For AV1, section 4.4): the Z of each packet equals the Y of the
+/// previous packet. Contracts see a joiner as one flag, which says whether an element is unfinished. The flag is the Y of the last packet that
+/// joined, or false before the first packet.
 #[derive(Debug, Drop)]
 pub struct Joiner {
     carries: bool,
@@ -40,8 +41,8 @@ impl Joiner {
         Joiner { carries: false }
     }
 
-    /// Takes Z (`continues`) and Y (`carries`) of the next packet. Refuses the packet exactly when its Z differs from
-    /// Y of the last packet that joined; before the first packet, that Y counts as 0. A refusal changes nothing.
+    /// Takes Z (`continues`) and Y (`carries`) of the next packet. Refuses the packet exactly when its Z differs from the Y of the last packet
+    /// that joined. Before the first packet, that Y counts as 0. A refusal changes nothing.
     pub fn feed(&mut self, continues: bool, carries: bool) -> Result<(), JoinFault>
         ensures ok { OnOk result ((continues ≡ self.old) × (self.new ≡ carries)) }
         ensures fault { IfErr result (λ e. (continues ≢ self.old) × (e ≡ record { carried = self.old; continues = continues })) }
@@ -61,7 +62,7 @@ impl Joiner {
         Ok(())
     }
 
-    /// Whether no element is unfinished, so that the packets so far may be a whole frame.
+    /// Whether no element is unfinished, so that the packets so far may be a complete frame.
     pub fn is_closed(&self) -> bool
         ensures flag { result ≡ not self.now }
         ensures packets { (packets : List Flags) → IsAfter self.now packets → (result ≡ true) ↔ Join packets }

@@ -22,7 +22,7 @@ pub struct ObuHeader {
     pub len: u8,
 }
 
-/// Why bytes don't begin with an OBU header.
+/// The reason why some bytes don't begin with an OBU header.
 #[derive(Clone, Copy, Debug, PartialEq, Eq, Error)]
 pub enum ObuFault {
     /// There are no bytes.
@@ -36,8 +36,8 @@ pub enum ObuFault {
     Cut,
 }
 
-/// Reads the header that the bytes begin with (AV1 Bitstream Specification, sections 5.3.2 and 5.3.3). Reserved bits are ignored. The error
-/// is the first fault that applies: `Empty`, `Forbidden` or `Cut`.
+/// Reads the header at the start of the bytes (AV1 Bitstream Specification, sections 5.3.2 and 5.3.3). Reserved bits are ignored. The error is
+/// the first fault that applies, in the order `Empty`, `Forbidden`, `Cut`.
 pub fn header(bytes: &[u8]) -> Result<ObuHeader, ObuFault>
     ensures found { IfOk result (λ h. BeginsWith bytes.now h) }
     ensures none { IfErr result (λ _. (h : ObuHeader) → BeginsWith bytes.now h → ⊥) }

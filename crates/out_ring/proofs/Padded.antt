@@ -1,4 +1,4 @@
--- Heads, and bare ones behind them.
+-- Heads, followed by bare heads.
 use Rattle.std.proofs.Common.{◌≡◌, ◌<◌, ◌≤◌, ℕ, suc, ◌+◌, ◌-◌, ◌%◌, List, [], ◌∷◌, ◌++◌, None, Some, length, drop, set, get_or, slice_get, refl, sym, ap, ◌∙◌, arith, append_assoc, length-append}
 use Rattle.std.specs.Prelude.{All, replicate}
 use Rattle.std.proofs.lemmas.List.{get_or-append_right, get_or-replicate, get_or_append_left, length-replicate, length-set, set-append_left, set_at}
@@ -19,7 +19,7 @@ pub get_or-padded : (heads : List Head) (i : ℕ) (d : Head) → i < length head
 unfolding padded
 get_or-padded heads i d within = get_or_append_left heads (replicate (1536 - length heads) bare) d i within
 
--- behind the heads
+-- after the heads
 pub bare_behind : (heads : List Head) (i : ℕ) (d : Head) → length heads ≤ i → i < 1536 → get_or (padded heads) i d ≡ bare
 unfolding padded
 bare_behind heads i d behind within =

@@ -3,7 +3,7 @@ use Rattle.std.proofs.Common.{◌≡◌, ◌<◌, ◌≤◌, ◌-◌, ℕ, List,
 use Rattle.out_ring.specs.Ring.{Pushed, Ring}
 use Rattle.out_ring.proofs.Steps.{ring_of, size_of_held, size_of_queue}
 
--- how many are queued is what the queue's length says
+-- the number of queued packets is the length of the queue
 pub few_queued : (slots : List Pushed) (ssrc next queued kept : ℕ) (ring : Ring) → length slots ≡ 1536 → queued ≤ 512 → kept ≤ 1024
     → ring_of ssrc next kept (drop (1536 - queued - kept) slots) ≡ ring → length ring.queued < 512 → queued < 512
 few_queued slots ssrc next queued kept ring size most most_kept is few =

@@ -91,7 +91,7 @@ pushed_last first heads own head full =
     ∙ ap (λ (k : ℕ). packets_from (suc first) (drop 1 heads) own ++ packet_by head (slice_get own k) ∷ [])
     (let e : (suc first + length (drop 1 heads)) % 1536 ≡ first % 1536 = omega (arith, length-drop 1 heads, full) in e)
 
--- a shared packet, where there are copies, and maybe more of them than before
+-- a shared packet in a slot, if there are copies, and perhaps more of them than before
 pub shared_last : (first : ℕ) (heads : List Head) (own new : List (List ℕ)) (packet : List ℕ) (marker : Bool) → length heads ≡ 1536 → AreAlike own new
     → packets_from ((first + 1) % 1536) (drop 1 heads ++ record { shared = Some packet; marker = marker } ∷ []) new
     ≡ drop 1 (packets_from first heads own) ++ record { bytes = packet; marker = marker } ∷ []
@@ -128,7 +128,7 @@ evict_there [] i head e = refl
 evict_there (h ∷ heads) zero head e = ap (λ (x : Head). record { shared = None; marker = x.marker } ∷ heads) (let same : h ≡ head = cc e in same)
 evict_there (h ∷ heads) (suc i) head e = ap (λ (hs : List Head). h ∷ hs) (evict_there heads i head e)
 
--- a head that shares nothing stays
+-- a head that shares nothing stays the same
 pub evict_unshared : (heads : List Head) (i : ℕ) (head : Head) → slice_get heads i ≡ Some head → head.shared ≡ None → evict heads i ≡ heads
 evict_unshared [] i head e none = refl
 evict_unshared (h ∷ heads) zero head e none =

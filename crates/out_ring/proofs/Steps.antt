@@ -1,4 +1,4 @@
--- What each call makes of the fields, over plain lists.
+-- How each call changes the fields, on plain lists.
 use Rattle.std.proofs.Common.{◌≡◌, ◌<◌, ◌≤◌, ℕ, suc, ◌+◌, ◌-◌, ◌%◌, min, List, [], ◌∷◌, ◌++◌, length, map, take, drop, refl, sym, ap, ◌∙◌, arith, Option, Some, None, slice_get, length-append, length-drop}
 use Rattle.std.proofs.lemmas.List.{drop-append-le, drop-drop, drop-take, length-map, length-take-le, map-append, take-append-le}
 use Rattle.std.proofs.lemmas.Option.{slice_get_within}
@@ -59,7 +59,7 @@ gives_at slots place number ssrc bytes h = go (slice_get slots place) refl h
     go None e sends = absurd sends
     go (Some packet) e sends = record { packet = packet; at = e; is = sends }
 
--- the ring whose oldest queued packet p was taken, and where at most 1,024 are kept from then on
+-- the ring after its oldest queued packet p was taken, in which at most 1,024 packets are kept
 pub ring_taken : (ssrc next kept keeps : ℕ) (held rest : List Pushed) (p : Pushed) → next < 65536 → kept ≤ 1024 → keeps ≡ min (kept + 1) 1024
     → slice_get held kept ≡ Some p → drop (suc kept) held ≡ rest
     → ring_of ssrc ((next + 1) % 65536) keeps (drop (kept + 1 - keeps) held)
@@ -107,7 +107,7 @@ held_pushed slots slot queued kept full few =
     rotated slots slot (1536 - (queued + 1) - kept) full (omega arith)
     ∙ ap (λ (k : ℕ). drop k slots ++ slot ∷ []) (let e : 1536 - (queued + 1) - kept + 1 ≡ 1536 - queued - kept = omega (arith, few) in e)
 
--- and after a take
+-- the kept and queued packets after a take
 pub held_taken : (slots : List Pushed) (queued kept keeps : ℕ) → 0 < queued → queued + kept ≤ 1536 → keeps ≤ kept + 1
     → drop (1536 - (queued - 1) - keeps) slots ≡ drop (kept + 1 - keeps) (drop (1536 - queued - kept) slots)
 held_taken slots queued kept keeps some few most =

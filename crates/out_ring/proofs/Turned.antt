@@ -1,4 +1,4 @@
--- Lists that begin at some place of a ring, and go on around its end.
+-- Lists that begin at some place of a ring and continue around its end.
 use Rattle.std.proofs.Common.{◌≡◌, ◌<◌, ◌≤◌, ℕ, ◌+◌, ◌-◌, ◌%◌, List, [], ◌∷◌, ◌++◌, length, take, drop, set, get_or, slice_get, sym, ap, ap₂, ◌∙◌, inl, inr, arith, Some, append-nil, append_assoc, length-append, length-drop, length-set, length-take, get_or-drop, get_or-take}
 use Rattle.std.proofs.Math.Seq.{take-set-lt}
 use Rattle.std.proofs.lemmas.Bool.{cases_lt}
@@ -10,7 +10,7 @@ module _ {X : Type 0} where
   pub size_turned : (place : ℕ) (xs : List X) → length (turned place xs) ≡ length xs
   size_turned place xs = omega (arith, length-append (drop place xs) (take place xs), length-drop place xs, length-take place xs)
 
-  -- to begin behind the last item is to begin at the first
+  -- a list that begins after the last item begins at the first item
   turned_whole : (place : ℕ) (xs : List X) → length xs ≡ 1536 → place ≤ 1536 → turned (place % 1536) xs ≡ turned place xs
   turned_whole place xs full within = elim (cases_lt place 1536) [
     | inl below ↦ ap (λ (k : ℕ). turned k xs) (let e : place % 1536 ≡ place = omega (arith, below) in e)
@@ -21,7 +21,7 @@ module _ {X : Type 0} where
         ∙ ap (λ (l : List X). l ++ take place xs) (sym (drop_all place xs (omega (arith, full, above))))
   ]
 
-  -- an item that replaces the first one is the last, if the list then begins behind it
+  -- an item that replaces the first one is the last item, if the list then begins after it
   pub put_in_first : (first : ℕ) (xs : List X) (x : X) → length xs ≡ 1536 → first < 1536
       → turned ((first + 1) % 1536) (set xs first x) ≡ drop 1 (turned first xs) ++ x ∷ []
   put_in_first first xs x full below =
@@ -52,7 +52,7 @@ module _ {X : Type 0} where
   item_there first i xs x full below within is =
       slice_get_read (turned first xs) 1536 i x (sym (size_turned first xs ∙ full)) within (is ∙ sym (get_or-turned first i xs x full below within))
 
-  -- to replace an item there is to replace it at its place
+  -- replacing an item of this list is replacing it at its place in the ring
   pub put_in_there : (first i : ℕ) (xs : List X) (x : X) → length xs ≡ 1536 → first < 1536 → i < 1536
       → turned first (set xs ((first + i) % 1536) x) ≡ set (turned first xs) i x
   put_in_there first i xs x full below within =

@@ -1,4 +1,4 @@
--- What the fields of the heads, of the slots and of a ring stand for.
+-- The values that the fields of the heads, of the slots and of a ring represent.
 use Rattle.std.specs.Prelude.{◌≡◌, ◌≤◌, ◌<◌, ◌+◌, ◌-◌, ◌++◌, ℕ, List, length, map, take, drop}
 use Rattle.std.specs.Vec.{vec_capacity}
 use Rattle.out_ring.specs.declared.heads.Head.{Head}

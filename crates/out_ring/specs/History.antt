@@ -1,10 +1,10 @@
--- All pushes and takes since a ring was made, and the ring that they leave. Own rules. The code stores the last packets only.
+-- All pushes and takes since a ring was made, and the ring after them. Own rules. The code stores only the last packets.
 use Rattle.std.specs.Prelude.{◌≡◌, ◌≢◌, ◌<◌, ◌≤◌, ◌+◌, ◌%◌, ℕ, List, [], ◌∷◌, ◌++◌, Bool, length, map, take, drop, slice_get}
 use Rattle.std.specs.declared.option.Option.TheVariants.{Some}
 use Rattle.forwarding_model.specs.Lists.{last_part}
 use Rattle.out_ring.specs.Ring.{Pushed, Ring, Sent, sent}
 
--- how the ring was made, what was pushed, the oldest first, and how many takes returned a packet
+-- how the ring was made, what was pushed (the oldest first), and how many takes returned a packet
 pub record History : Type 0 where
   pub ssrc : ℕ
   pub first : ℕ  -- the first sequence number
@@ -29,7 +29,7 @@ numbered n ssrc (p ∷ pushes) = sent (n % 65536) ssrc p ∷ numbered (n + 1) ss
 abbrev pub outgoing : History → List Sent
 outgoing h = numbered h.first h.ssrc h.pushes
 
--- the ring is in the state that this history leaves
+-- the ring is in the state after this history
 pub record IsAfter (ring : Ring) (h : History) : Type 0 where
   pub ssrc : ring.ssrc ≡ h.ssrc
   pub next : ring.next ≡ (h.first + h.takes) % 65536
@@ -37,7 +37,7 @@ pub record IsAfter (ring : Ring) (h : History) : Type 0 where
   pub kept : ring.kept ≡ last_part 1024 (take h.takes (outgoing h))
   pub found : h.takes ≤ length h.pushes
 
--- the take after this many takes returns this packet
+-- the take after `place` other takes returns this packet
 abbrev pub Gives : History → ℕ → Sent → Type 0
 Gives h takes packet = slice_get (outgoing h) takes ≡ Some packet
 

@@ -1,5 +1,5 @@
--- A ring is the queue and the store that a subscriber has in the forwarding model. Own statements. The model's packets have sequence
--- number, SSRC, marker and a rest; what is pushed into a ring are bytes and a marker.
+-- A ring is the queue and the store that a subscriber has in the forwarding model. Own statements. A packet of the model has a sequence number,
+-- an SSRC, a marker and a rest. A push to a ring has bytes and a marker.
 use Rattle.std.specs.Prelude.{◌≡◌, ◌==◌, ℕ, List, [], ◌∷◌, Bool, map}
 use Rattle.std.specs.List.{find}
 use Rattle.std.specs.Option.{option_map}
@@ -21,21 +21,21 @@ pub record IsPushOf (p : Pushed) (packet : Packet) : Type 0 where
   pub marker : p.marker ≡ packet.marker
   pub bytes : (number ssrc : ℕ) (marker : Bool) → rewritten number ssrc marker p.bytes ≡ rewritten number ssrc marker packet.rest
 
--- each push is that of the model's packet at the same place, and there are as many of both
+-- each push is that of the model's packet at the same place, and there are equally many pushes and packets
 abbrev pub ArePushesOf : List Pushed → List Packet → Type 0
 ArePushesOf [] [] = Unit {0}
 ArePushesOf [] (packet ∷ packets) = ⊥
 ArePushesOf (p ∷ pushes) [] = ⊥
 ArePushesOf (p ∷ pushes) (packet ∷ packets) = IsPushOf p packet × ArePushesOf pushes packets
 
--- what was forwarded to this subscriber was pushed, and as many packets were taken as it took
+-- exactly the packets forwarded to this subscriber were pushed, and the number of takes is that of the subscriber
 pub record IsHistoryOf {S : Type 0} (h : History) (send : Sender S) (to : Subscriber) (events : List (Event S)) : Type 0 where
   pub ssrc : h.ssrc ≡ to.ssrc
   pub first : h.first ≡ to.first
   pub pushes : ArePushesOf h.pushes (forwarded send to.wish events)
   pub takes : h.takes ≡ takes_of events
 
--- the ring has the subscriber's queue, its kept packets and its numbers, and finds a kept packet where the model does
+-- the ring has the subscriber's queue, kept packets and numbers, and finds a kept packet exactly if the model does
 pub record IsStoreOf {S : Type 0} (ring : Ring) (send : Sender S) (to : Subscriber) (events : List (Event S)) : Type 0 where
   pub ssrc : ring.ssrc ≡ to.ssrc
   pub next : ring.next ≡ next_number send to events

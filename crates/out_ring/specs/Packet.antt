@@ -1,4 +1,4 @@
--- What the fields of a packet in its buffer stand for.
+-- The value that the fields of a packet in its buffer represent.
 use Rattle.std.specs.Prelude.{◌≡◌, ◌≤◌, ℕ, List, [], ◌∷◌, take}
 use Rattle.std.specs.declared.option.Option.TheVariants.{None}
 use Rattle.rtp_packet.specs.Faults.{first_fault}

@@ -1,4 +1,4 @@
--- The packet at a place, as it is sent.
+-- How the packet at a place is sent.
 use Rattle.std.specs.Prelude.{◌≡◌, ℕ, List, slice_get}
 use Rattle.std.specs.declared.option.Option.{Option}
 use Rattle.std.specs.declared.option.Option.TheVariants.{None, Some}

@@ -1,5 +1,5 @@
--- What contracts see of the packets that are sent to a subscriber, and how each call changes it. Own rules, over RTP's fields (RFC 3550,
--- section 5.1). The code has slots for packets as they were pushed; a packet's number follows from its place.
+-- What contracts see of the packets that are sent to a subscriber, and how each call changes this value. Own rules, over RTP's fields (RFC
+-- 3550, section 5.1). The code has slots for packets as they were pushed. A packet's number follows from its place.
 use Rattle.std.specs.Prelude.{◌≡◌, ◌+◌, ◌%◌, ◌==◌, ℕ, List, [], ◌∷◌, ◌++◌, Bool, Result, Ok, Err, length}
 use Rattle.std.specs.List.{find}
 use Rattle.std.specs.declared.option.Option.{Option}
@@ -9,7 +9,7 @@ use Rattle.sfu_base.specs.declared.call.Refusal.TheVariants.{Empty, NotKept}
 use Rattle.rtp_packet.specs.Rewritten.{rewritten}
 use Rattle.forwarding_model.specs.Lists.{last_part}
 
--- a packet as it was pushed, and the marker that it is sent with
+-- a packet as it was pushed, and the marker with which it is sent
 pub record Pushed : Type 0 where
   pub bytes : List ℕ
   pub marker : Bool
@@ -27,9 +27,9 @@ pub record Ring : Type 0 where
   pub ssrc : ℕ
   pub next : ℕ  -- the sequence number of the first packet that wasn't taken
   pub queued : List (List ℕ)  -- the packets that weren't taken, the oldest first
-  pub kept : List Sent  -- the last 1,024 that were taken, the oldest first
+  pub kept : List Sent  -- the last 1,024 packets that were taken, the oldest first
 
--- nothing is queued, and nothing kept
+-- a ring with no queued and no kept packets
 abbrev pub begun : ℕ → ℕ → Ring
 begun ssrc first = record { ssrc = ssrc; next = first; queued = []; kept = [] }
 
@@ -37,11 +37,11 @@ begun ssrc first = record { ssrc = ssrc; next = first; queued = []; kept = [] }
 abbrev pub next_queued : Ring → ℕ
 next_queued ring = (ring.next + length ring.queued) % 65536
 
--- a packet was queued behind the others
+-- the ring after a packet was appended to the queue
 abbrev pub pushed : List ℕ → Bool → Ring → Ring
 pushed packet marker ring = record ring { queued = ring.queued ++ rewritten (next_queued ring) ring.ssrc marker packet ∷ [] }
 
--- the oldest queued packet was taken, and these are left
+-- the ring after the oldest queued packet was taken and these packets are left
 abbrev pub taken : Ring → List ℕ → List (List ℕ) → Ring
 taken ring packet rest = record {
   ssrc = ring.ssrc;

@@ -1,4 +1,4 @@
--- What a packet that rings share stands for.
+-- The value that a packet shared by rings represents.
 use Rattle.std.specs.Prelude.{ℕ, List}
 use Rattle.std.specs.Arc.{arc_value}
 use Rattle.out_ring.specs.declared.store.SharedPacket.TheInside.{Inside}

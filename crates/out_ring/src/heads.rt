@@ -1,4 +1,4 @@
-// The heads of the slots: the packet that each slot shares, if any, and its marker.
+// The heads of the slots. A head has the packet that its slot shares, if there is one, and the slot's marker.
 ghost use Rattle.std.specs.Prelude.{◌≡◌, ◌<◌, ◌≤◌, ◌∷◌, ◌++◌, All, IfOk, None, Some, [], drop, length, slice_get};
 ghost use Rattle.std.specs.Option.{option_copied};
 ghost use Rattle.out_ring.specs.Slots.{evict, shared_at};
@@ -10,19 +10,20 @@ use std::alloc::Global;
 use std::marker::Model;
 use std::mem;
 
-/// The shared packet of one slot, if the slot has one, and the marker that the slot's packet is sent with.
+/// The shared packet of one slot, if the slot has one, and the marker bit with which the slot's packet is sent.
 #[derive(Debug, Drop)]
 pub struct Head {
     pub shared: Option<SharedPacket>,
     pub marker: bool,
 }
 
-/// The heads of 1,536 slots. Clauses see them as a list, the oldest first. One that wasn't put yet shares nothing, and its memory isn't touched.
+/// The heads of 1,536 slots. Contracts see them as a list, the oldest first. A head that hasn't been added yet shares nothing, and its memory isn't touched.
 #[derive(Debug, Drop)]
 pub struct Heads {
-    // the heads that were put, up to 1,536
+    // the heads added so far, up to 1,536
     ring: Vec<Head>,
-    // the index of the oldest; the others follow in order and wrap around after 1,536. An index behind the last item is of a head that wasn't put yet.
+    // the index of the oldest head; the others follow in order and wrap around after 1,536. An index after the last item belongs to a head that
+    // hasn't been added yet.
     oldest: usize,
 }
 
@@ -40,7 +41,7 @@ impl Model for Heads {
 }
 
 impl Heads {
-    /// Heads without shared packets. All memory that they need is allocated here; `NoMemory`: out of memory.
+    /// Heads without shared packets. Returns `NoMemory` if memory runs out. No later call allocates memory.
     pub fn new(alloc: Global) -> Result<Heads, NoMemory>
         ensures size { IfOk result (λ heads. length heads ≡ 1536) }
         ensures unshared { IfOk result (λ heads. All (λ head. head.shared ≡ None) heads) }
@@ -51,7 +52,7 @@ impl Heads {
         Ok(Heads { ring, oldest: 0 })
     }
 
-    /// What the head at this place shares, and its marker; places count from 0 at the oldest.
+    /// Returns the packet that the head at this place shares, if there is one, and the head's marker. Places count from 0 at the oldest.
     #[inline(always)]
     pub fn get(&self, place: usize) -> (Option<&SharedPacket>, bool)
         requires { place < 1536 }
@@ -63,7 +64,7 @@ impl Heads {
         }
     }
 
-    /// Removes and returns the shared packet of the head at this place, counted from 0 at the oldest. `None` where that head has none.
+    /// Removes and returns the shared packet of the head at this place, or returns `None` if the head has none. Places count from 0 at the oldest.
     #[inline(always)]
     pub fn evict(&mut self, place: usize) -> Option<SharedPacket>
         requires { place < 1536 }
@@ -77,7 +78,7 @@ impl Heads {
         self.ring[index].shared.take()
     }
 
-    /// Drops the oldest head, and adds one as the newest. Returns the packet that the oldest head shared, if any.
+    /// Drops the oldest head, and adds one as the newest. Returns the packet that the oldest head shared, if it shared one.
     #[inline(always)]
     pub fn put_last(&mut self, shared: Option<SharedPacket>, marker: bool) -> Option<SharedPacket>
         ensures shared { result ≡ shared_at self.old 0 }

@@ -1,5 +1,5 @@
-//! What is sent to one subscriber: the packets that are queued, and the last 1,024 that were taken, for retransmissions. A packet for many
-//! subscribers is stored once, if a `PacketStore` has a free buffer for it. Only `OutRing::new` and `PacketStore::grow` allocate memory.
+//! The packets of one subscriber: those in the queue, and the last 1,024 packets taken from it, which are kept for retransmission. If a `PacketStore`
+//! has a free buffer, a packet for many subscribers is stored only once. Only `OutRing::new` and `PacketStore::grow` allocate memory.
 #![tactic(auto)]
 
 mod heads;

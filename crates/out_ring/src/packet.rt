@@ -1,4 +1,4 @@
-// One packet, in a buffer that holds the longest one.
+// One packet, in a buffer that has space for the longest packet.
 ghost use Rattle.std.specs.Prelude.{◌≡◌, ◌≤◌, None, length};
 ghost use Rattle.rtp_packet.specs.Faults.{first_fault};
 ghost use Rattle.out_ring.specs.Packet.{least_packet};
@@ -6,10 +6,10 @@ ghost use Rattle.out_ring.specs.Packet.{least_packet};
 use rtp_packet::plain_packets_read;
 use std::marker::Model;
 
-/// The most bytes that a sent packet has (own rule).
+/// The largest length of a packet that is sent, in bytes (own rule).
 const MOST_BYTES: usize = 1536;
 
-/// An RTP packet of at most 1,536 bytes, as it was put in. Clauses see it as its bytes. No call allocates memory.
+/// An RTP packet of at most 1,536 bytes, exactly as it was stored. Contracts see it as its bytes. No call allocates memory.
 #[derive(Debug, Drop)]
 pub struct StoredPacket {
     buf: [u8; MOST_BYTES],
@@ -29,8 +29,7 @@ impl Model for StoredPacket {
 }
 
 impl StoredPacket {
-    /// The shortest RTP packet (RFC 3550, section 5.1): a fixed header of version 2 with all other fields 0, and nothing
-    /// behind it.
+    /// The shortest RTP packet (RFC 3550, section 5.1): a fixed header of version 2 with all other fields 0, and no payload.
     pub fn new() -> StoredPacket
         ensures { result ≡ least_packet }
     {
@@ -40,7 +39,7 @@ impl StoredPacket {
         StoredPacket { buf, count: 12 }
     }
 
-    /// Replaces the packet with this one.
+    /// Replaces the packet with this RTP packet of at most 1,536 bytes.
     pub fn fill(&mut self, packet: &[u8])
         requires reads { first_fault packet.now ≡ None }
         requires fits { length packet.now ≤ 1536 }

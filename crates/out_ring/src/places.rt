@@ -1,10 +1,10 @@
-// Places of slots, which wrap around at the end.
+// Computes places of slots. Places wrap around after the last slot.
 ghost use Rattle.std.specs.Prelude.{◌≡◌, ◌<◌, ◌+◌, ◌%◌};
 
 /// How many slots a ring has: 1,024 for kept packets and 512 for queued ones (own rule).
 pub const SLOTS: usize = 1536;
 
-/// The place `count` places behind this one, modulo 1,536.
+/// The place that is `count` places after this one, modulo 1,536.
 #[inline(always)]
 pub fn place_from(place: usize, count: usize) -> usize
     requires place { place < 1536 }
@@ -16,7 +16,7 @@ pub fn place_from(place: usize, count: usize) -> usize
     if there < SLOTS { there } else { there - SLOTS }
 }
 
-/// The place behind this one, modulo 1,536.
+/// The place after this one, modulo 1,536.
 #[inline(always)]
 pub fn next_place(place: usize) -> usize
     requires { place < 1536 }

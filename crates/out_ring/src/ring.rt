@@ -11,19 +11,19 @@ use sfu_base::{NoMemory, PacketBuf, Refusal};
 use std::alloc::Global;
 use std::marker::Model;
 
-/// The most packets that are kept after they were taken (own rule).
+/// The largest number of taken packets that are kept for retransmission (own rule).
 const MOST_KEPT: u16 = 1024;
 
-/// The packets that are sent to one subscriber. Clauses see the subscriber's SSRC, the sequence number of the next take, the queued packets, and the kept
-/// packets with their numbers.
+/// The packets that are sent to one subscriber. Contracts see the subscriber's SSRC, the sequence number of the next take, the queued packets,
+/// and the kept packets with their sequence numbers.
 #[derive(Debug, Drop)]
 pub struct OutRing {
     ssrc: u32,
-    // the sequence number of the oldest queued packet, or of the next push where none is queued
+    // the sequence number of the oldest queued packet or, if none is queued, of the next pushed packet
     next: u16,
     queued: u16,
     kept: u16,
-    // how many of the slots right before those of the kept packets may still share a packet that isn't kept any more
+    // how many slots may still share a packet that isn't kept any more; they are right before the slots of the kept packets
     spent: u16,
     // The newest slots have the queued packets; the slots right before those have the kept packets.
     slots: Slots,
@@ -42,8 +42,8 @@ impl Model for OutRing {
 }
 
 impl OutRing {
-    /// A ring with nothing queued and nothing kept. Its packets will have this SSRC, and sequence numbers from `first` on. All memory is allocated here:
-    /// 1,536 slots of 1,536 bytes. `NoMemory`: out of memory.
+    /// A ring with no queued and no kept packets. The ring's packets are sent with this SSRC, and with sequence numbers from `first` on.
+    /// Allocates 1,536 slots of 1,536 bytes, or returns `NoMemory`. No later call allocates memory.
     pub fn new(alloc: Global, ssrc: u32, first: u16) -> Result<OutRing, NoMemory>
         ensures begun { IfOk result (λ ring. ring ≡ begun ssrc first) }
         ensures stands { IfOk result (λ ring. IsAfter ring (nothing_done ssrc first)) }
@@ -66,9 +66,9 @@ impl OutRing {
         self.queued
     }
 
-    /// Queues an RTP packet of at most 1,536 bytes behind the others. It will be sent with the next sequence number, the subscriber's SSRC and this marker,
-    /// and with no other bit changed. Its bytes are copied once. Fewer than 512 packets must be queued before the call. Call `evict` first: else a packet that
-    /// the oldest slot still shares is dropped, and its buffer lost to the store.
+    /// Appends an RTP packet of at most 1,536 bytes to the queue, which must have fewer than 512 packets. The packet is sent with the next
+    /// sequence number, the subscriber's SSRC and this marker; no other bit changes. Its bytes are copied once. Call `evict` first. Without
+    /// that call, a packet that the oldest slot still shares is dropped, and its buffer is lost to the store.
     #[inline(always)]
     pub fn push(&mut self, packet: &[u8], marker: bool)
         requires capacity { length self.old.queued < 512 }
@@ -82,8 +82,8 @@ impl OutRing {
         let _ = self.slots.fill(packet, marker);
     }
 
-    /// Queues a shared packet behind the others, as `push` queues a copy. No byte is copied. The new packet takes the oldest slot. Returns the packet that
-    /// this slot still shared, if any; release that packet to its store.
+    /// Appends a shared packet to the queue, as `push` does with a copy. No byte is copied. The new packet takes the oldest slot. If that slot
+    /// still shared a packet, returns this packet, so that the caller can release it to its store.
     #[inline(always)]
     pub fn push_shared(&mut self, packet: SharedPacket, marker: bool) -> Option<SharedPacket>
         requires capacity { length self.old.queued < 512 }
@@ -95,8 +95,8 @@ impl OutRing {
         self.slots.share(packet, marker)
     }
 
-    /// Looks at the oldest slot that may still share a packet that isn't kept any more. Removes and returns that packet, if there is one. Call this before
-    /// each push, and release the returned packet: each take leaves at most one such slot, so a buffer is free again soon.
+    /// Checks the oldest slot that may still share a packet that isn't kept any more. If the slot has one, removes and returns it. Call this
+    /// before each push, and release the returned packet. Each take leaves at most one such slot, so the buffers are soon free again.
     #[inline(always)]
     pub fn evict(&mut self) -> Option<SharedPacket>
         ensures { self.new ≡ self.old }
@@ -109,7 +109,7 @@ impl OutRing {
         self.slots.evict(place)
     }
 
-    /// Ends the ring: the packets that it shares are released to the store.
+    /// Ends the ring, and releases the packets that it shares to the store.
     pub fn release(self, store: &mut PacketStore)
         ensures all { store.new.all ≡ store.old.all }
         ensures free { store.old.free ≤ store.new.free }
@@ -118,8 +118,9 @@ impl OutRing {
         slots.release(store);
     }
 
-    /// Takes the oldest queued packet: replaces the contents of `out` with it, and returns its sequence number. The packet is kept from then on; if more
-    /// than 1,024 are kept, the oldest is forgotten. `Empty`: none is queued; nothing changes then. The bytes are copied once.
+    /// Removes the oldest packet from the queue, puts it into `out` in place of the old contents, and returns its sequence number. The packet
+    /// is then kept for retransmission. If more than 1,024 packets would be kept, the oldest is forgotten. Returns `Empty` and changes nothing
+    /// if no packet is queued. The bytes are copied once.
     #[inline(always)]
     pub fn take(&mut self, out: &mut PacketBuf) -> Result<u16, Refusal>
         ensures takes { Takes self.old self.new result out.old out.new }
@@ -144,8 +145,8 @@ impl OutRing {
         Ok(number)
     }
 
-    /// Replaces the contents of `out` with the kept packet that has this sequence number, byte for byte as its take returned it. `NotKept`: none of the last
-    /// 1,024 packets taken has this number; nothing changes then. The packet is found in constant time, and its bytes are copied once.
+    /// Replaces the contents of `out` with the kept packet that has this sequence number, byte for byte as `take` returned it. Returns `NotKept` and
+    /// changes nothing if none of the last 1,024 taken packets has this number. The packet is found in constant time, and its bytes are copied once.
     pub fn resend(&self, seq: u16, out: &mut PacketBuf) -> Result<(), Refusal>
         ensures resends { Resends self.now seq result out.old out.new }
         ensures first_bytes { (h : History) → IsAfter self.now h
@@ -167,7 +168,7 @@ impl OutRing {
     }
 }
 
-// How many of the `spent` slots are left where this many packets are queued and kept: a push reuses the oldest slot.
+// How many of the `spent` slots remain if `queued` packets are queued and `kept` packets are kept. A push reuses the oldest slot.
 #[inline(always)]
 fn spent_in(spent: u16, queued: u16, kept: u16) -> u16
     requires queued { queued ≤ 512 }

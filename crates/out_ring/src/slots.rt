@@ -15,9 +15,9 @@ use sfu_base::{NoMemory, PacketBuf};
 use std::alloc::Global;
 use std::marker::Model;
 
-/// The last 1,536 packets that were put in, each with the marker that it is sent with. A slot shares its packet, or has a copy of its own. `new`
-/// allocates the memory for all heads and copies but doesn't touch it: each push touches at most one more head, and from the first copy on at most
-/// one more buffer. Clauses see 1,536 packets, the oldest first; a slot that nothing was put into yet has the shortest RTP packet.
+/// The last 1,536 packets that were added, each with the marker with which it is sent. A slot shares its packet, or has a copy of its own.
+/// `new` allocates the memory for all heads and copies, but doesn't touch it. Each push touches at most one more head and, from the first copy
+/// on, at most one more buffer. Contracts see 1,536 packets, the oldest first. A slot that hasn't been filled yet has the shortest RTP packet.
 #[derive(Debug, Drop)]
 pub struct Slots {
     heads: Heads,
@@ -40,7 +40,7 @@ impl Model for Slots {
 }
 
 impl Slots {
-    /// Makes 1,536 slots and allocates all memory that they ever need. `NoMemory`: out of memory.
+    /// Makes 1,536 slots. Returns `NoMemory` if memory runs out. No later call allocates memory.
     pub fn new(alloc: Global) -> Result<Slots, NoMemory>
         ensures { IfOk result (λ slots. length slots ≡ 1536) }
     {
@@ -54,8 +54,8 @@ impl Slots {
         })
     }
 
-    /// Drops the oldest packet, and adds a copy of this packet, with this marker, as the newest. Returns the packet that the oldest slot shared,
-    /// if any.
+    /// Drops the oldest packet, and adds a copy of this packet, with this marker, as the newest. Returns the packet that the oldest slot
+    /// shared, if it shared one.
     pub fn fill(&mut self, packet: &[u8], marker: bool) -> Option<SharedPacket>
         requires reads { first_fault packet.now ≡ None }
         requires fits { length packet.now ≤ 1536 }
@@ -68,7 +68,7 @@ impl Slots {
         self.heads.put_last(None, marker)
     }
 
-    /// Drops the oldest packet, and adds this shared packet, with this marker, as the newest. Returns the packet that the oldest slot shared, if any.
+    /// Drops the oldest packet, and adds this shared packet, with this marker, as the newest. Returns the packet that the oldest slot shared, if it shared one.
     #[inline(always)]
     pub fn share(&mut self, packet: SharedPacket, marker: bool) -> Option<SharedPacket>
         ensures { self.new ≡ drop 1 self.old ++ record { bytes = packet; marker = marker } ∷ [] }
@@ -78,8 +78,8 @@ impl Slots {
         self.heads.put_last(Some(packet), marker)
     }
 
-    /// Removes and returns the packet that the slot at this place shares, if any; places count from 0 at the oldest. After that, this slot and
-    /// older ones may have other packets, and the packets of all newer slots are unchanged.
+    /// Removes and returns the packet that the slot at this place shares, if it shares one. Places count from 0 at the oldest. Afterwards this
+    /// slot and older slots may have any packets. The packets of newer slots are unchanged.
     #[inline(always)]
     pub fn evict(&mut self, place: usize) -> Option<SharedPacket>
         requires { place < 1536 }
@@ -98,8 +98,8 @@ impl Slots {
         heads.release(store);
     }
 
-    /// Replaces the contents of `out` with the packet at this place, counted from 0 at the oldest, with this sequence number and SSRC and the
-    /// slot's marker. The result is an RTP packet of the same length.
+    /// Replaces the contents of `out` with the packet at this place, but with this sequence number and SSRC and with the slot's marker. Places
+    /// count from 0 at the oldest. The result is an RTP packet of the same length.
     pub fn send(&self, place: usize, seq: u16, ssrc: u32, out: &mut PacketBuf)
         requires place { place < 1536 }
         ensures sends { SendsFrom self.now place seq ssrc out.new }
@@ -116,7 +116,7 @@ impl Slots {
     }
 }
 
-// The index of the next copy: 0 for the first copy, else `first`.
+// The index of the next copy: 0 for the first copy, otherwise `first`.
 fn place_for(own: &[StoredPacket], first: usize) -> usize
     requires { first < 1536 }
     ensures below { result < 1536 }
@@ -125,7 +125,7 @@ fn place_for(own: &[StoredPacket], first: usize) -> usize
     if own.is_empty() { 0 } else { first }
 }
 
-// Appends shortest RTP packets until index `place` has one. The slots' packets stay the same.
+// Appends copies of the shortest RTP packet until there is an item at index `place`. The slots' packets stay the same.
 fn make_own(own: &mut Vec<StoredPacket>, place: usize)
     requires place { place < 1536 }
     requires few { vec_len own.old ≤ 1536 }
@@ -140,7 +140,7 @@ fn make_own(own: &mut Vec<StoredPacket>, place: usize)
     }
 }
 
-// As `make_own`, but does nothing while there are no copies.
+// Like `make_own`, but does nothing if there are no copies yet.
 #[inline(always)]
 fn go_on(own: &mut Vec<StoredPacket>, place: usize)
     requires place { place < 1536 }
@@ -162,7 +162,8 @@ fn own_in(own: &[StoredPacket], place: usize) -> Option<&StoredPacket>
     own.get(place)
 }
 
-// Replaces the contents of `out` with the shared packet, or else with the slot's own copy, or else with the shortest packet.
+// Replaces the contents of `out` with the shared packet. Without a shared packet, the slot's own copy is used. If there is no copy either, the
+// shortest packet is used.
 fn fill_out(shared: Option<&SharedPacket>, own: Option<&StoredPacket>, out: &mut PacketBuf)
     ensures bytes { out.new ≡ bytes_by (option_copied shared.entry) (option_copied own.entry) }
     ensures reads { first_fault out.new ≡ None }

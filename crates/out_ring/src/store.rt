@@ -8,8 +8,8 @@ use std::alloc::Global;
 use std::marker::Model;
 use std::sync::Arc;
 
-/// A counted reference to a packet that rings share. The packet's bytes are stored once, and don't change while there is a reference. Clauses see the
-/// reference as the packet's bytes.
+/// A counted reference to a packet that rings share. The packet's bytes are stored once, and don't change while there is a reference. Contracts
+/// see the reference as the packet's bytes.
 #[derive(Debug, Drop)]
 pub struct SharedPacket {
     packet: Arc<StoredPacket>,
@@ -26,7 +26,7 @@ impl Model for SharedPacket {
 }
 
 impl SharedPacket {
-    /// One more reference to the same packet, or `None` if the reference count would overflow. It allocates no memory.
+    /// Returns one more reference to the same packet, or `None` if the reference count would overflow. It allocates no memory.
     #[inline(always)]
     pub fn another(&self) -> Option<SharedPacket>
         ensures { IfSome result (λ shared. shared ≡ self.now) }
@@ -47,13 +47,13 @@ impl SharedPacket {
     }
 }
 
-/// A pool of buffers of 1,536 bytes for packets that rings share. A buffer is free again once the last reference to its packet is released. The buffer
-/// that was released last is reused first, so that few buffers are touched. Clauses see how many buffers there are in all, and how many of them are
-/// free.
+/// A pool of buffers of 1,536 bytes for packets that rings share. A buffer is free again once the last reference to its packet is released. The
+/// buffer that was released last is reused first, so that few buffers are touched. Contracts see how many buffers there are in all, and how
+/// many of them are free.
 #[derive(Drop)]
 pub struct PacketStore {
     free: Vec<Arc<StoredPacket>>,
-    // how many buffers there are, free or shared
+    // how many buffers there are, both free ones and those in use
     all: usize,
 }
 
@@ -84,7 +84,7 @@ impl PacketStore {
         self.free.len()
     }
 
-    /// Allocates buffers until there are `all` of them. `NoMemory`: out of memory; some buffers may have been added by then.
+    /// Allocates buffers until there are `all` of them in total. Returns `NoMemory` if memory runs out; some buffers may have been added by then.
     pub fn grow(&mut self, alloc: Global, all: usize) -> Result<(), NoMemory>
         ensures enough { OnOk result (all ≤ self.new.all) }
         ensures free { self.old.free ≤ self.new.free }
@@ -119,7 +119,8 @@ impl PacketStore {
         }
     }
 
-    /// Copies an RTP packet of at most 1,536 bytes into a free buffer, if there is one. It allocates no memory.
+    /// Copies an RTP packet of at most 1,536 bytes into a free buffer, and returns a reference to it. Returns `None` if no buffer is free. It
+    /// allocates no memory.
     pub fn put(&mut self, packet: &[u8]) -> Option<SharedPacket>
         requires reads { first_fault packet.now ≡ None }
         requires fits { length packet.now ≤ 1536 }
@@ -137,8 +138,8 @@ impl PacketStore {
         Some(SharedPacket { packet: buf })
     }
 
-    /// Drops one reference to a packet; the last one returns the packet's buffer to the pool. It allocates no memory. A `SharedPacket` that is dropped
-    /// without this call leaks its buffer from the pool.
+    /// Drops one reference to a packet. When the last reference is dropped, the packet's buffer goes back to the pool. It allocates no memory.
+    /// If a `SharedPacket` is dropped without this call, the pool may lose its buffer.
     #[inline(always)]
     pub fn release(&mut self, packet: SharedPacket)
         ensures all { self.new.all ≡ self.old.all }

@@ -183,7 +183,7 @@ new_elements profile id block value found within =
     let are = widened_said forms.form forms.wide id value es forms.widens (subst (AreSaid forms.form) (sym same) (all_said forms.form block)) in
     ap (λ (x : Option Form). elements_if x (block_if x (replaced id value es))) forms.new ∙ block_read forms.wide (replaced id value es) are
 
--- A profile that selects a form has 16 bits.
+-- A profile that stands for a form has 16 bits.
 
 named_small : (profile : ℕ) (form : Form) → form_of profile ≡ Some form → profile < 65536
 named_small profile form named =

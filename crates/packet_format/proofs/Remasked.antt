@@ -105,7 +105,7 @@ extended_of : (x : Bool) (rest : List ℕ) (p : ℕ) → profile_in x rest ≡ S
 extended_of true rest p e = refl
 extended_of false rest p e = absurd cc
 
--- if nothing follows the CSRC list, the profile counts as 0, which selects no form
+-- if nothing follows the CSRC list, the profile counts as 0, which stands for no form
 none_in_nothing : (id : ℕ) (x : Bool) (rest value : List ℕ) → rest ≡ [] → element_in id (profile_in x rest) (block_in x rest) ≡ Some value → ⊥
 none_in_nothing id false rest value none e = cc
 none_in_nothing id true rest value none e =
@@ -214,7 +214,7 @@ has_shown id force rest d payload e = by_reading ((format_of id).descriptor forc
     by_reading Faulty is e = absurd cc
     by_reading (Reads c) is e = by_obeying c is (obeys_structure (format_of id) force c) refl e
 
--- a descriptor of this structure, carried or in force, reads the same by any structure in force by which it is of this one
+-- a descriptor with this structure, carried or in force, is read in the same way with any structure in force that leads to this structure
 other_force : (bytes : List ℕ) (force other : Option TemplateStructure) (c : Content) (s : TemplateStructure) → (carried : Option TemplateStructure) → c.structure ≡ carried
     → holding carried force ≡ Some s → holding carried other ≡ Some s → descriptor_at bytes force ≡ Ok c → descriptor_at bytes other ≡ Ok c
 other_force bytes force other c s None is h k reads = ap (descriptor_at bytes) (k ∙ sym h) ∙ reads

@@ -28,7 +28,7 @@ element_of id rest = element_in id (profile_of rest) (block_of rest)
 
 -- ---- the descriptor
 
--- what the forwarder needs of a descriptor
+-- the parts of a descriptor that the forwarder uses
 abbrev pub said : Content → Descriptor TemplateStructure
 said c =
     descriptor_with c.start c.end c.number c.structure c.mask
@@ -42,7 +42,7 @@ reading_of (Err (faults.Template index count)) = Faulty
 reading_of (Err faults.References) = Faulty
 reading_of (Err (faults.Bad fault)) = Faulty
 
--- a packet without the element is faulty
+-- the descriptor in a packet's element; a packet without the element is faulty
 abbrev pub descriptor_in : Option TemplateStructure → Option (List ℕ) → DescriptorReading TemplateStructure
 descriptor_in force None = Faulty
 descriptor_in force (Some bytes) = reading_of (descriptor_at bytes force)

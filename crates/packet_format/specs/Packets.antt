@@ -1,5 +1,5 @@
--- The packets of forwarding, as bytes: sequence number, SSRC and marker, and the rest.
--- RFC 3550, section 5.1. The rest is the bytes with these three fields zeroed, so it has all other information of the bytes.
+-- The packets of forwarding, as bytes: sequence number, SSRC and marker, and the rest. RFC 3550, section 5.1. The rest is the bytes with these
+-- three fields set to 0, so it has all other information of the bytes.
 use Rattle.std.specs.Prelude.{◌≡◌, ◌≤◌, ◌<◌, ◌^◌, ℕ, Bool, false, List, length, Option, None, Some}
 use Rattle.sfu_base.specs.Bytes.{AreBytes}
 use Rattle.sfu_base.specs.declared.call.RtpFault.{RtpFault}
@@ -32,8 +32,8 @@ without_fault (Some fault) bytes = None
 abbrev pub read_packet : List ℕ → Option Packet
 read_packet bytes = without_fault (first_fault bytes) bytes
 
--- A packet is sent as the bytes as which it arrived. With another sequence number, SSRC and marker it
--- is sent as the same bytes except for these fields, and such bytes are read as that packet again.
+-- A packet is sent with the bytes with which it arrived. With another sequence number, SSRC and marker, only these fields of the bytes differ,
+-- and the bytes are read as that packet again.
 pub record PacketsAreSent : Type 0 where
   pub same : (bytes : List ℕ) → AreBytes bytes → 12 ≤ length bytes → bytes_of (packet_of bytes) ≡ bytes
   pub elsewhere : (sequence ssrc : ℕ) (marker : Bool) (bytes : List ℕ) → 12 ≤ length bytes

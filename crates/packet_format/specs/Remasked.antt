@@ -1,8 +1,7 @@
--- A packet whose dependency descriptor gets another mask (own rule).
--- RFC 3550, sections 5.1 and 5.3.1 (place of the header extension), RFC 8285 (its elements), AV1 RTP payload format,
--- Appendix A (the descriptor). The first element with the track's id gets a new value: the descriptor's bits with the new
--- mask. The header extension is rewritten with this value, and every other bit of the packet stays. A packet that would get
--- too long isn't remasked. The code reads the packet once and writes the new header extension into a buffer of its own.
+-- A packet with another mask in its dependency descriptor (own rule). RFC 3550, sections 5.1 and 5.3.1 (place of the header extension), RFC
+-- 8285 (its elements), AV1 RTP payload format, Appendix A (the descriptor). The first element with the track's id gets a new value: the
+-- descriptor's bits with the new mask. The header extension is rewritten with this value, and every other bit of the packet stays. A packet
+-- that would become too long isn't remasked. The code reads the packet once and writes the new header extension into a buffer of its own.
 use Rattle.std.specs.Prelude.{ℕ, ◌*◌, nat_lt, if◌then◌else◌, List, ◌++◌, length, take, drop, Option, None, Some, Result, Ok, Err}
 use Rattle.forwarding_model.specs.forwarding.Timeline.{Packet}
 use Rattle.rtp_packet.specs.Fields.{csrc_count, profile_of, block_of, behind_header}
@@ -19,8 +18,8 @@ abbrev pub value_with : ℕ → Result PartBits DdFault → Option (List ℕ)
 value_with mask (Ok parts) = Some (whole_bytes (with_mask parts mask))
 value_with mask (Err fault) = None
 
--- The descriptor's first three bytes, its flags with the mask's flag set, its structure, the new mask, its frame's
--- definition, and zero bits up to a whole byte. There is no new value if there is no descriptor, or if it can't be parsed.
+-- The descriptor's first three bytes, its flags with the mask's flag set, its structure, the new mask, its frame's definition, and zero bits
+-- that fill up the last byte. There is no new value if there is no descriptor, or if it can't be parsed.
 abbrev pub new_value : Option TemplateStructure → ℕ → Option (List ℕ) → Option (List ℕ)
 new_value force mask None = None
 new_value force mask (Some descriptor) = value_with mask (parts_at descriptor force)

@@ -16,7 +16,7 @@ use Rattle.packet_format.specs.Remasked.{remasked, remasked_bytes, remasked_pack
 abbrev pub telling : ℕ → Descriptor TemplateStructure → Descriptor TemplateStructure
 telling mask d = record d { mask = Some mask }
 
--- The new bytes are those of the same packet except for its header extension. The other elements keep their values.
+-- The new bytes are those of the same packet, except for its header extension. In the header extension, the other elements keep their values.
 pub record IsRemasked (id : ℕ) (bytes new : List ℕ) : Type 0 where
   pub few : length new ≤ 1536
   pub reads : first_fault bytes ≡ None → first_fault new ≡ None
@@ -46,7 +46,7 @@ abbrev pub ShowsFirst : ℕ → TemplateStructure → Bool → List ℕ → Desc
 ShowsFirst id s key rest d payload =
     (force : Option TemplateStructure) → (key ≡ true) ⊎ (force ≡ Some s) → shown (format_of id) force rest ≡ Shows d payload
 
--- The same holds for the remasked packet. A key frame's first packet carries the structure.
+-- `ShowsFirst` also holds for the remasked packet, with the new mask. A key frame's first packet carries the structure.
 abbrev pub FirstPacketsShow : Type 0
 FirstPacketsShow = (id mask : ℕ) (s : TemplateStructure) (key : Bool) (rest : List ℕ) (d : Descriptor TemplateStructure) (payload : Payload)
     → IsCarried (format_of id) s → mask < 2 ^ s.target_count → is_key_start d ≡ key → (key ≡ true → d.structure ≡ Some s)

@@ -12,6 +12,6 @@ bytes_from (suc n) bits = value (take 8 bits) ∷ bytes_from n (drop 8 bits)
 abbrev pub bytes_for : ℕ → ℕ
 bytes_for n = (n + 7) / 8
 
--- the bits, and zero bits up to a whole byte
+-- the bits, followed by zero bits that fill up the last byte
 abbrev pub whole_bytes : List Bool → List ℕ
 whole_bytes bits = bytes_from (bytes_for (length bits)) (bits ++ replicate (8 * bytes_for (length bits) - length bits) false)

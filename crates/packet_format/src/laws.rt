@@ -15,20 +15,20 @@ ghost use Rattle.packet_format.specs.WholeBytes.{whole_bytes};
 ghost use Rattle.packet_format.specs.Telling.{tells_in};
 ghost use Rattle.packet_format.specs.RemaskedReads.{CarriedStructuresDecide, FirstPacketsShow, PacketsAreRemasked, RemaskedPacketsShow, RestsAreRemasked, RestsTell};
 
-/// For every header extension id, the format that reads packets has all the properties that the laws of forwarding require of a format.
+/// For every header extension id, the format that reads packets fulfils `IsFormat`, which the laws of forwarding require.
 pub fn formats_have_the_facts()
     ensures { (id : ℕ) → IsFormat (format_of id) }
 {}
 
-/// A packet is sent with the bytes with which it arrived, except for sequence number, SSRC and marker. Zeroing these
-/// three fields gives the packet's rest, which has the same header extension, payload and faults as the packet.
+/// A packet is sent with the bytes with which it arrived, except for sequence number, SSRC and marker. A packet's rest is the packet with these
+/// three fields set to 0. The rest has the same header extension, payload and faults as the packet.
 pub fn packets_are_sent_as_they_came()
     ensures sent { PacketsAreSent }
     ensures rests { RestsSayTheSame }
 {}
 
-/// A packet with a new mask is the same packet except for its header extension, whose other elements
-/// keep their values. Reading it finds the same descriptor except for the mask, and the same payload.
+/// A packet with a new mask differs from the old packet only in its header extension. The other elements of the header extension keep their
+/// values. The new packet is read as the same descriptor except for the mask, and as the same payload.
 pub fn remasked_packets_show_the_new_mask()
     ensures packets { PacketsAreRemasked }
     ensures shown { RemaskedPacketsShow }
@@ -38,15 +38,15 @@ pub fn remasked_packets_show_the_new_mask()
     ensures tells { RestsTell }
 {}
 
-/// A law: of the descriptors that can be parsed, exactly those with a mask say which decode targets are active. A descriptor's
-/// mask is the one that it carries; if it carries only a structure, its mask has all decode targets of that structure.
+/// A law: of the descriptors that can be parsed, exactly those with a mask say which decode targets are active. The mask is the one that the
+/// descriptor carries. If it carries only a structure, the mask has all decode targets of that structure.
 pub fn descriptors_tell_their_mask()
     ensures { (bytes : List ℕ) (force : Option TemplateStructure) (c : Content) → AreBytes bytes → descriptor_at bytes force ≡ Ok c
         → tells_in (Some bytes) ≡ is_some c.mask }
 {}
 
-/// A law: the new value of a packet's element is the descriptor with another mask. It has the bits
-/// of the descriptor's parts, concatenated, and then zero bits up to a whole byte.
+/// A law: the new value of a packet's element is the descriptor with another mask. The new value has the bits of the descriptor's parts,
+/// concatenated, and zero bits that fill up the last byte.
 pub fn new_values_are_remasked_descriptors()
     ensures { (bytes : List ℕ) (force : Option TemplateStructure) (c : Content) (mask : ℕ) → (d : IsDescriptor bytes force c)
         → new_value force mask (Some bytes) ≡ Some (whole_bytes (remasked_bits d mask)) }

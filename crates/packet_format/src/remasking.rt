@@ -24,7 +24,7 @@ const EXTENSION_HEADER: usize = 4;
 /// The largest length of a remasked packet, in bytes.
 const MOST: usize = 1536;
 
-/// Replaces the mask in packets. A remasker keeps its working memory of some 12 KB, so the memory isn't cleared for each packet.
+/// Replaces the mask in packets. A remasker reuses its working memory of some 12 KB, so that it needn't be cleared for each packet.
 #[derive(Drop)]
 pub struct Remasker {
     room: RemaskRoom,
@@ -47,12 +47,12 @@ impl Remasker {
         }
     }
 
-    /// Replaces the contents of `out` with the packet, but with another mask in its dependency descriptor (AV1 RTP payload format, Appendix
-    /// A). Bit i of the mask says whether decode target i is active; bit 0 is the lowest, and bits past the last decode target are left
-    /// out. The descriptor is the value of the first header extension element with this id (RFC 8285). The elements keep their order; a new
-    /// descriptor of more than 16 bytes turns the one-byte form into the two-byte form. Fixed header, CSRC identifiers, payload and padding
-    /// (RFC 3550, section 5.1) are copied bit by bit. Returns `NoFit` if there is no descriptor, if it can't be parsed with the structure
-    /// `force`, if the new descriptor would pass 255 bytes, or if the new packet would pass 1,536 bytes; `out` is then as it was.
+    /// Replaces the contents of `out` with the packet, but with another mask in its dependency descriptor (AV1 RTP payload format, Appendix A).
+    /// Bit i of the mask says whether decode target i is active. Bit 0 is the lowest, and bits after the last decode target are left out. The
+    /// descriptor is the value of the first header extension element with this id (RFC 8285). The elements keep their order. A new descriptor
+    /// of more than 16 bytes turns the one-byte form into the two-byte form. Fixed header, CSRC identifiers, payload and padding (RFC 3550,
+    /// section 5.1) are copied bit by bit. Returns `NoFit` and leaves `out` unchanged if there is no descriptor, or if it can't be parsed with
+    /// the structure `force`. The same happens if the new descriptor would exceed 255 bytes, or the new packet 1,536 bytes.
     ///
     /// The packet must be an RTP packet.
     pub fn remask(
@@ -92,7 +92,7 @@ impl Default for Remasker {
     }
 }
 
-/// Replaces the contents of `out` with the descriptor that has this mask in place of its own.
+/// Replaces the contents of `out` with the descriptor, but with this mask in place of its own.
 fn fill_value(
     descriptor: &[u8],
     force: Option<&Structure>,

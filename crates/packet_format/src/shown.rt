@@ -16,19 +16,19 @@ use dd_descriptor::{DdFault, Descriptor, NewestDescriptor};
 use dd_structure::Structure;
 use rtp_packet::Rtp;
 
-/// What can be read from a packet with the structure in force.
+/// The result of reading a packet with the structure in force.
 #[derive(Clone, Copy, Debug, PartialEq, Eq)]
 pub enum Shown {
-    /// Its descriptor needs a structure, but carries none, and none is in force.
+    /// The packet's descriptor carries no structure, and none is in force.
     LacksStructure,
-    /// Its descriptor is missing, or can't be parsed, or carries a structure that isn't the one in force and begins no key frame.
+    /// The packet's descriptor is missing or can't be parsed. Or it carries a structure that differs from the one in force, and doesn't begin a key frame.
     Unread,
-    /// Its descriptor can be parsed, and its payload has these flags.
+    /// The packet's descriptor was parsed, and its payload has these flags.
     Shows(PayloadFlags),
 }
 
-/// Reads a packet with the structure in force. If the packet has a descriptor that can be parsed,
-/// `newest` has that descriptor afterwards; otherwise the contents of `newest` are unspecified.
+/// Reads a packet with the structure in force. If the packet has a descriptor that can be parsed, `newest` has that descriptor afterwards.
+/// Otherwise `newest` may have any contents.
 pub fn show(
     packet: &Rtp<'_>,
     id: u8,
@@ -54,7 +54,7 @@ pub fn show(
     }
 }
 
-/// What can be read from a packet if its descriptor has this fault.
+/// The result of reading a packet whose descriptor has this fault.
 fn of_fault(fault: DdFault) -> Shown
     ensures { result ≡ fault_shown fault }
 {
@@ -64,7 +64,7 @@ fn of_fault(fault: DdFault) -> Shown
     }
 }
 
-/// Whether the descriptor obeys this rule: only a key frame's first packet may carry a structure that isn't the one in force.
+/// Whether the descriptor obeys the structure rule: only the first packet of a key frame may carry a structure that differs from the one in force.
 fn obeys(descriptor: &Descriptor, force: Option<&Structure>) -> bool
     requires { descriptor.now.ref_count ≤ 16 }
     ensures { result ≡ obeys_structure structures_alone (option_copied force.entry) (said (content_of (option_copied force.entry) descriptor.now)) }

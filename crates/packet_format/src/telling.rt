@@ -9,7 +9,7 @@ use crate::look::descriptor_bytes;
 /// The length of the mandatory descriptor fields, in bytes (AV1 RTP payload format, Appendix A).
 const MANDATORY: usize = 3;
 
-/// The least value of the descriptor's fourth byte that has one of the two highest bits set: the flags of a structure and of a mask.
+/// The least value of the descriptor's fourth byte with one of the two highest bits set. These bits are the flags of a structure and of a mask.
 const STRUCTURE_OR_MASK: u8 = 0x40;
 
 /// Whether the packet's dependency descriptor carries a structure or a mask (AV1 RTP payload format, Appendix A,

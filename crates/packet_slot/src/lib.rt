@@ -1,4 +1,4 @@
-//! A slot for one packet that a track buffers. It has a fixed size, and no call takes memory.
+//! A buffer of fixed size for one packet that a track keeps. No call allocates memory.
 #![tactic(auto)]
 
 ghost use Rattle.std.specs.Prelude.{◌≡◌, ◌≤◌, [], length};
@@ -8,7 +8,7 @@ use std::marker::Model;
 /// The longest packet that a track accepts, in bytes (own rule).
 pub const PACKET_BYTES: usize = 1500;
 
-/// A buffer of up to 1,500 bytes. Contracts see it as the list of its bytes. No call takes memory.
+/// A buffer of up to 1,500 bytes. Contracts see it as the list of its bytes. No call allocates memory.
 #[derive(Debug, Drop)]
 pub struct PacketSlot {
     room: [u8; PACKET_BYTES],

@@ -8,7 +8,7 @@ use Rattle.place_set.specs.Places.{ChangesPlace, HasNone, IsFirstFrom, IsLowest}
 
 -- ---- one place changes
 
--- a word in which one bit is changed
+-- a word after one of its bits was changed
 changes_word : (words : List ℕ) (place word : ℕ) (value : Bool) → place / 64 < length words → (bit_at word (place % 64) == 1) ≡ value
     → ((k : ℕ) → k < 64 → k ≢ place % 64 → bit_at word k ≡ bit_at (get_or words (place / 64) 0) k)
     → ChangesPlace words (set words (place / 64) word) place value
@@ -44,7 +44,7 @@ takes old words place same within =
 
 -- ---- the least place of a word
 
--- the bits of a word from one on
+-- the bits of a word from one bit on
 record IsRest (word from rest : ℕ) : Type 0 where
   below : (k : ℕ) → k < from → bit_at rest k ≡ 0
   above : (k : ℕ) → from ≤ k → k < 64 → bit_at rest k ≡ bit_at word k
@@ -66,7 +66,7 @@ none_in_word words at from rest is zero place le lt =
     ap (λ i. bit_at (get_or words i 0) (place % 64) == 1) same
     ∙ ap (λ b. b == 1) (sym (is.above (place % 64) (omega arith) (omega arith)) ∙ ap (λ w. bit_at w (place % 64)) zero ∙ bit_at-zero (place % 64))
 
--- else the place of the rest's lowest bit is the least
+-- otherwise the place of the rest's lowest bit is the least
 first_in_word : (words : List ℕ) (at from rest first bit : ℕ) → IsRest (get_or words at 0) from rest → IsLowest rest (Some bit) → first ≡ at * 64 + bit
     → IsFirstFrom words (64 * at + from) (Some first)
 first_in_word words at from rest first bit is low place_is =
@@ -87,7 +87,7 @@ first_in_word words at from rest first bit is low place_is =
           ∙ ap (λ b. b == 1) (sym (is.above (place % 64) (omega (arith, same)) (omega arith)) ∙ low.2 (place % 64) below),
     )
 
--- ---- the least place from one on
+-- ---- the least place from a place on
 
 -- the rest of its word
 abbrev pub rest_of : List ℕ → ℕ → ℕ

@@ -6,16 +6,16 @@ use Rattle.std.specs.Int.{bit_at}
 abbrev pub has_place : List ℕ → ℕ → Bool
 has_place set place = bit_at (slice_index set (place / 64)) (place % 64) == 1
 
--- one place is in the set now or isn't, and each other place is as before
+-- one place is or isn't in the set afterwards, and each other place is as before
 pub record ChangesPlace (old new : List ℕ) (place : ℕ) (value : Bool) : Type 0 where
   pub changed : has_place new place ≡ value
   pub others : (other : ℕ) → other ≢ place → has_place new other ≡ has_place old other
 
--- no place from one up to another is in the set
+-- no place from `from` up to another is in the set
 abbrev pub HasNone : List ℕ → ℕ → ℕ → Type 0
 HasNone set from to = (place : ℕ) → from ≤ place → place < to → has_place set place ≡ false
 
--- the least place of the set from one on, or none
+-- the least place of the set from `from` on, or none
 abbrev pub IsFirstFrom : List ℕ → ℕ → Option ℕ → Type 0
 IsFirstFrom set from None = (place : ℕ) → from ≤ place → has_place set place ≡ false
 IsFirstFrom set from (Some first) = (from ≤ first) × (has_place set first ≡ true) × HasNone set from first

@@ -4,10 +4,10 @@ ghost use Rattle.place_set.specs.Places.{ChangesPlace, IsFirstFrom, IsLowest, ha
 
 use std::marker::Model;
 
-/// How many places there are: 0 to 255.
+/// The number of places, which are 0 to 255.
 const PLACES: usize = 256;
 
-/// How many words a set has, of `WORD_BITS` bits each.
+/// The number of words in a set, each of `WORD_BITS` bits.
 const WORDS: usize = 4;
 
 const WORD_BITS: usize = 64;
@@ -27,7 +27,7 @@ impl Model for PlaceSet {
 }
 
 impl PlaceSet {
-    /// The empty set.
+    /// Returns the empty set.
     pub fn new() -> PlaceSet
         ensures { (place : ℕ) → has_place result place ≡ false }
     {
@@ -50,7 +50,7 @@ impl PlaceSet {
         self.words[place / WORD_BITS] &= !(1 << (place % WORD_BITS));
     }
 
-    /// The least place of the set that is at least `from`, or `None` if there is none.
+    /// Returns the least place of the set that is at least `from`, or `None` if there is none.
     #[inline(always)]
     pub fn first_from(&self, from: usize) -> Option<usize>
         ensures first { IsFirstFrom self.now from result }
@@ -68,7 +68,7 @@ impl PlaceSet {
     }
 }
 
-// The least place in the words from word `from` on.
+// Returns the least place of the set in word `from` or a later word.
 fn first_behind(words: &[u64; WORDS], from: usize) -> Option<usize>
     ensures first { IsFirstFrom words.now (64 * from) result }
     ensures below { IfSome result (λ place. place < 256) }
@@ -81,7 +81,7 @@ fn first_behind(words: &[u64; WORDS], from: usize) -> Option<usize>
     None
 }
 
-// The index of a word's lowest bit that is 1, or `None` if the word is 0.
+// Returns the index of the lowest bit of a word that is 1, or `None` if the word is 0.
 #[inline(always)]
 fn lowest(word: u64) -> Option<usize>
     ensures { IsLowest word result }

@@ -11,7 +11,7 @@ use Rattle.sfu_script.specs.Ports.{is_apart, port_of}
 use Rattle.sfu_script.specs.ReadLines.{call_of}
 use Rattle.sfu_script.specs.Skipped.{is_skipped}
 use Rattle.sfu_script.proofs.PortLaws.{port_found}
-use Rattle.port_config.specs.Script.{Configured, Said, Makes, Serves, Setup, all_apart, and_said, configuration_of, makes_first, may_follow, nothing_said, or_port, said_behind, said_by, stops_at, with_line, with_said}
+use Rattle.port_config.specs.ports.Script.{Configured, Said, Makes, Serves, Setup, all_apart, and_said, configuration_of, makes_first, may_follow, nothing_said, or_port, said_behind, said_by, stops_at, with_line, with_said}
 
 -- ---- one line
 

@@ -5,7 +5,7 @@ use Rattle.sfu_driver.specs.Scan.{Scan, More, Whole, NoUnit}
 use Rattle.sfu_driver.specs.Input.{Line, lines_of, said}
 use Rattle.sfu_script.specs.declared.ports.PortLine.{PortLine}
 use Rattle.sfu_script.specs.Skipped.{is_skipped}
-use Rattle.port_config.specs.Script.{Configured, Said, Makes, Serves, Setup, and_said, configuration_of, may_follow, nothing_said, said_behind, said_by, stops_at, with_line, with_said}
+use Rattle.port_config.specs.ports.Script.{Configured, Said, Makes, Serves, Setup, and_said, configuration_of, may_follow, nothing_said, said_behind, said_by, stops_at, with_line, with_said}
 
 ports_with : (setup : Setup) (seen : Scan) (n : ℕ) (next : Setup → Configured) → length setup.ports ≤ 64 → ((later : Setup) → length later.ports ≤ 64 → length (next later).setup.ports ≤ 64) → length (with_line setup seen n next).setup.ports ≤ 64
 ports_with setup More n next few rest = rest setup few

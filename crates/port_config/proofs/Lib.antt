@@ -1,4 +1,9 @@
+pub mod Parts
+pub mod Calls
+pub mod ActorsJudging
+pub mod ActorsDue
+pub mod Sorting
 pub mod Counts
 pub mod Apart
-pub mod Judging
-pub mod Due
+pub mod PortsJudging
+pub mod PortsDue

@@ -1,3 +1,3 @@
-pub mod Script
-pub mod Reader
-pub mod Reading
+pub mod Driven
+pub mod actors
+pub mod ports

@@ -1,10 +1,9 @@
-//! Configurations of ports: the calls to make first and the ports to serve, read to the configuration's end.
+//! Reads small texts to their end before a command begins: scripts of actors, and configurations of ports. Also writes the journal of the actors' turns.
 #![tactic(auto)]
 
-mod reader;
+mod actors;
+mod ports;
 mod reading;
-#[cfg(test)]
-mod tests;
 
-pub use reader::Served;
-pub use reading::read_served;
+pub use actors::{Placed, in_order, put_all, put_last, read_actors, text_of, told};
+pub use ports::{Served, read_served};

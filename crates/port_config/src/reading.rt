@@ -1,37 +1,36 @@
-// Reading a whole configuration of `serve`.
-ghost use Rattle.std.specs.Prelude.{◌≡◌, ◌≤◌, IfErr, IfOk, OnOk};
-ghost use Rattle.port_config.specs.Reading.{ReadsNoSetup, ReadsSetup};
-ghost use Rattle.sfu_driver.specs.Statuses.{number_of};
+// Reads a small text to its end.
+ghost use Rattle.std.specs.Prelude.{◌≤◌};
+ghost use Rattle.sfu_driver.specs.Lines.{line_scan, line_scan_end};
+ghost use Rattle.sfu_driver.specs.Units.{rule_of};
+ghost use Rattle.port_config.specs.Driven.{WasDriven};
 
-use crate::reader::{ServeReader, Served};
 use sfu_base::{Sink, Source};
-use sfu_driver::{Lines, Status, Units, drive};
+use sfu_driver::{Judge, Lines, Status, Units, drive};
 use std::alloc::Global;
 
-/// Reads the calls and the ports from the source's lines. An error is the command's status: 5 if a line is outside the grammar, 3 if the
-/// source can't be read, 6 if memory runs out. It writes nothing but `line N`, if line N is outside the grammar.
-pub fn read_served<S: Source, K: Sink>(
+/// Passes all lines of the source to the judge, and returns the judge. An error is the command's status: 3 if the source
+/// can't be read, 4 if the sink fails, 6 if memory runs out. If the judge ends the command, it is the status of that end.
+pub fn read_all<J: Judge + Drop, S: Source, K: Sink>(
     alloc: Global,
+    judge: J,
     source: &mut S,
     sink: &mut K,
-) -> Result<Served, Status>
-    ensures ok { IfOk result (λ served. ReadsSetup (S.left source.old) (S.left source.new) (K.written sink.old) (K.written sink.new) served) }
-    ensures kept { OnOk result ((S.faults source.new ≡ S.faults source.old) × (K.faults sink.new ≡ K.faults sink.old)) }
-    ensures err { IfErr result (λ status. ReadsNoSetup (S.left source.old) (S.left source.new) (K.written sink.old) (K.written sink.new)
-        (S.faults source.old) (S.faults source.new)
-        (K.faults sink.old) (K.faults sink.new) (number_of status)) }
+) -> Result<J, Status>
+    ensures drove { (state : J.State) → J.stands judge state
+        → WasDriven J.stands (rule_of line_scan line_scan_end J.step J.outside J.closing) state (S.left source.old) (S.left source.new)
+        (K.written sink.old) (K.written sink.new) (S.faults source.old) (S.faults source.new) (K.faults sink.old) (K.faults sink.new) result }
     ensures never_falls { K.faults sink.old ≤ K.faults sink.new }
 {
-    let mut units = Units::new(Lines, ServeReader::new(alloc), 1);
+    let mut units = Units::new(Lines, judge, 1);
     let came_out = drive(alloc, &mut units, source, sink);
     if came_out.is_err() {
         return Err(Status::of(came_out));
     }
     let Units {
         cut: _,
-        judge,
+        judge: driven,
         number: _,
         kept: _,
     } = units;
-    Ok(judge.into_served())
+    Ok(driven)
 }

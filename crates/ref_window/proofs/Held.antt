@@ -166,7 +166,7 @@ far_held greatest number words far =
     (filtered (held_test greatest words) (is_near number) greatest
     ∙ none_below (λ m. is_near number m && held_test greatest words m) greatest (λ m lt. ap (λ b. b && held_test greatest words m) (lt-leb number (m + 4096) (omega arith))))
 
--- the bits between were cleared, and that of the former greatest was set
+-- the bits between the numbers were cleared, and that of the earlier greatest number was set
 pub near_held : (greatest number : ℕ) (old mid new : List ℕ) → greatest < number → number ≤ greatest + 4096
     → ClearsBits old mid (greatest + 1) number number → ChangesBit mid new greatest true
     → held_in (Some number) new ≡ held_of (number ∷ held_in (Some greatest) old)

@@ -72,7 +72,7 @@ next_recent numbers number mask are d low = elim (cases_eq d 0) [
 some_greatest : (greatest recent : ℕ) → recent ≢ 0 → greatest_of greatest recent ≡ Some greatest
 some_greatest greatest recent some = ap (λ b. cond b None (Some greatest)) (ne_eqb recent 0 some)
 
--- it is empty where no recent number is kept
+-- the window is empty if no recent number is kept
 pub seen_none : (greatest recent : ℕ) (words seen : List ℕ) → held_in (greatest_of greatest recent) words ≡ seen → recent ≡ 0 → seen ≡ []
 seen_none greatest recent words seen is none =
     sym is ∙ ap (λ b. held_in (cond b None (Some greatest)) words) (eq-eqb recent 0 none) ∙ nothing_held words
@@ -150,7 +150,7 @@ next_are number below new before is are =
     subst (λ o. AreRecent o new (bit_or below 1)) (sym (some_greatest number (bit_or below 1) (one_is_set below)))
     (λ d low. next_recent before number below are d low ∙ ap (λ l. has_below l number d) (sym is))
 
--- the first one was
+-- the first number was inserted
 pub first_are : (number : ℕ) (words : List ℕ) → held_in (Some number) words ≡ number ∷ [] → AreRecent (Some number) words 1
 first_are number words is d low =
     next_recent [] number 0 (λ m above few. ap (λ b. b == 1) (bit_at-zero m)) d low ∙ ap (λ l. has_below l number d) (sym is)

@@ -2,11 +2,11 @@
 use Rattle.std.specs.Prelude.{◌≡◌, ◌+◌, ◌≤◌, ℕ, List, ◌∷◌}
 use Rattle.ref_window.specs.Numbers.{held_of, has_below, is_among, IsAboveAll}
 
--- When a number above all others is inserted, it makes no difference whether the window had forgotten numbers before.
+-- After a number above all others is inserted, the window is the same whether or not it had forgotten numbers before.
 abbrev pub ForgetsForGood : Type 0
 ForgetsForGood = (number : ℕ) (numbers : List ℕ) → IsAboveAll number numbers → held_of (number ∷ held_of numbers) ≡ held_of (number ∷ numbers)
 
--- For a number above all inserted ones, and distances up to 4,096 below it, the window decides as the list of all inserted numbers does.
+-- For a number above all inserted ones and distances of at most 4,096 below it, the window decides like the list of all inserted numbers.
 abbrev pub AnswersForAll : Type 0
 AnswersForAll = (number distance : ℕ) (numbers : List ℕ) → IsAboveAll number numbers → distance ≤ 4096
     → has_below (held_of numbers) number distance ≡ has_below numbers number distance

@@ -1,4 +1,4 @@
-//! The frame numbers that a later frame can still refer to. Numbers are inserted in rising order, and those at most 4,096 below the
+//! A set of the frame numbers that a later frame can still refer to. Numbers are inserted in ascending order, and those at most 4,096 below the
 //! greatest are kept. The set has a fixed size and allocates no memory.
 #![tactic(auto)]
 

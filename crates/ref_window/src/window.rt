@@ -5,14 +5,14 @@ ghost use Rattle.ref_window.specs.Numbers.{AreBelow, AreExactlyBelow, IsAboveAll
 use crate::words::{SPAN, WORD_BITS, WORDS, Words, bit, clear_all, move_on};
 use std::marker::Model;
 
-/// The numbers that were inserted since the last reset and are at most 4,096 below the greatest of them. A contract sees their list, the
-/// newest first.
+/// The numbers inserted since the last reset that are at most 4,096 below the greatest of them. Contracts see the window as the list of these
+/// numbers, the newest first.
 #[derive(Debug, Drop)]
 pub struct RefWindow {
-    // the greatest number, and bits for the numbers below it; meaningless where the window is empty
+    // the greatest number, and bits for the numbers below it; meaningless if the window is empty
     greatest: u64,
     words: Words,
-    // a second copy of the newest part: bit d (bit 0 is the lowest) is set exactly if the window contains `greatest - d`; 0 where the window is empty
+    // a second copy of the newest part: bit d (bit 0 is the lowest) is set exactly if the window contains `greatest - d`; 0 if the window is empty
     recent: u64,
 }
 
@@ -52,8 +52,8 @@ impl RefWindow {
         self.greatest - number <= SPAN && bit(&self.words, number)
     }
 
-    /// A mask of the window's numbers right below `number`, if `number` is above all of them: for d from 1 to 63, bit d (bit 0 is the
-    /// lowest) is set exactly if the window contains `number - d`. Bit 0 is never set. For any other `number` the mask is 0.
+    /// Returns a mask of the window's numbers right below `number`. If `number` is above all of them, then for d from 1 to 63, bit d (bit 0 is
+    /// the lowest) is set exactly if the window contains `number - d`. Bit 0 is never set. If `number` isn't above all of them, the mask is 0.
     #[inline(always)]
     pub fn right_below(&self, number: u64) -> u64
         ensures held { AreBelow self.now number result }
@@ -66,8 +66,8 @@ impl RefWindow {
         self.recent << (number - self.greatest)
     }
 
-    /// Inserts `number` if it is above all numbers inserted since the last reset, and forgets the numbers more than 4,096 below it.
-    /// Any other number changes nothing.
+    /// If `number` is above all numbers inserted since the last reset, inserts it and forgets the numbers more than 4,096 below it. Any other
+    /// number changes nothing.
     pub fn insert(&mut self, number: u64)
         ensures inserted { IsAboveAll number self.old → self.new ≡ held_of (number ∷ self.old) }
         ensures refused { (IsAboveAll number self.old → ⊥) → self.new ≡ self.old }

@@ -1,15 +1,15 @@
-// The ring of bits. A number's bit is at the number modulo 4,096, so the bits stay in place when the window moves on.
+// A ring of bits. The bit of a number is at the index that is the number modulo 4,096, so bits stay in place when the window moves on.
 ghost use Rattle.std.specs.Prelude.{◌≡◌, ◌∷◌, ◌+◌, ◌/◌, ◌%◌, ◌<◌, ◌≤◌, ℕ, Some, true, false};
 ghost use Rattle.ref_window.specs.Numbers.{held_of};
 ghost use Rattle.ref_window.specs.Words.{ChangesBit, ClearsBits, has_bit, held_in};
 
-/// How far below the greatest number a kept number may be.
+/// A kept number is at most this far below the greatest one.
 pub const SPAN: u64 = 4096;
 
-/// Words in the ring, of `WORD_BITS` bits each.
+/// The number of words in the ring. Each has `WORD_BITS` bits.
 pub const WORDS: usize = 64;
 
-/// Bits of a word.
+/// The number of bits of a word.
 pub const WORD_BITS: u64 = 64;
 
 /// `SPAN` bits.
@@ -41,7 +41,7 @@ fn clear_bit(words: &mut Words, number: u64)
     words[word_of(number)] &= !(1 << (number % WORD_BITS));
 }
 
-// Clears the bits of the numbers from `from` up to, but not including, `to`: whole words where it can, so in at most 190 steps.
+// Clears the bits of the numbers in `from..to`. It clears whole words where possible, so it takes at most 190 steps.
 fn clear_bits(words: &mut Words, from: u64, to: u64)
     requires order { from ≤ to }
     requires span { to ≤ from + 4096 }
@@ -53,7 +53,7 @@ fn clear_bits(words: &mut Words, from: u64, to: u64)
     }
 }
 
-// Clears the bits of the numbers from `number` up to, but not including, the result.
+// Clears the bits of some numbers from `number` on, and returns the first number whose bit it didn't clear.
 fn clear_some(words: &mut Words, number: u64, to: u64) -> u64
     requires order { number < to }
     requires span { to ≤ number + 4096 }
@@ -77,7 +77,7 @@ pub fn clear_all(words: &mut Words)
     *words = [0; WORDS];
 }
 
-/// Inserts `number`, which is above `greatest`: the bits become those of the numbers in the window below `number`.
+/// Inserts `number`, which is above `greatest`, and clears the bits of the numbers that leave the window.
 pub fn move_on(words: &mut Words, greatest: u64, number: u64)
     requires { greatest < number }
     ensures { held_in (Some number) words.new ≡ held_of (number ∷ held_in (Some greatest) words.old) }

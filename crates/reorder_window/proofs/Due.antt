@@ -1,4 +1,4 @@
--- The moment at which a tick gives up a gap: as the slots tell it, and what a tick then does.
+-- The moment at which a tick gives up a gap, computed from the slots, and what a tick at this moment does.
 use Rattle.std.proofs.Common.{◌≡◌, inl, inr, ◌+◌, ◌-◌, ◌^◌, ◌<◌, ◌≤◌, ◌==◌, ◌↔◌, ℕ, max, arith, false, List, [], ◌∷◌, refl, ◌∙◌, ap, nat_lt}
 use Rattle.std.specs.Prelude.{Option, None, Some}
 use Rattle.std.specs.Option.{option_map}
@@ -32,7 +32,7 @@ unreached : (hold lowest moment : ℕ) → IsReached (due_after hold (Some lowes
 unreached hold lowest moment = cond_both (nat_lt (lowest + hold) (2 ^ 64)) (Some (lowest + hold)) None (λ (o : Option ℕ). IsReached o moment → lowest + hold ≤ moment)
     (λ e p. p) (λ e p. absurd p)
 
--- where `next` isn't held
+-- if the packet with number `next` isn't buffered
 tells : (hold moment next : ℕ) (held : List Held) → IsAscending (next + 1) held → moment < 2 ^ 64
     → (next < past_due hold moment next held) ↔ IsReached (due_after hold (lowest_moment held)) moment
 tells hold moment next [] up fits = (λ p. absurd (omega arith), λ p. absurd p)

@@ -1,4 +1,4 @@
--- The packet that arrived last goes to the pool.
+-- The packet that arrived last is moved to the pool.
 use Rattle.std.proofs.Common.{◌≡◌, ◌==◌, ◌%◌, ℕ, true, refl, sym, ◌∙◌, ap}
 use Rattle.std.specs.Prelude.{Option, None, Some, is_some}
 use Rattle.std.proofs.lemmas.Bool.{cond-true, eq-eqb}

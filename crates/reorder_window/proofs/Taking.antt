@@ -1,4 +1,4 @@
--- What a pool holds after a packet is taken out.
+-- The packets of a pool after one was taken out.
 use Rattle.std.proofs.Common.{◌≡◌, ◌≢◌, inl, inr, set, ◌%◌, ◌+◌, ◌<◌, ℕ, zero, suc, arith, true, false, List, [], ◌∷◌, ◌++◌, refl, sym, ◌∙◌, ap, length}
 use Rattle.std.specs.Prelude.{Option, None, Some, slice_get}
 use Rattle.std.proofs.lemmas.Bool.{cases_eq, cond-false, eqb-true, ne_eqb}
@@ -12,7 +12,7 @@ other_number : (o : Option ℕ) (number n : ℕ) → is_number o number ≡ true
 other_number None number n is apart = cc
 other_number (Some m) number n is apart = ne_eqb m n (λ e. apart (sym e ∙ eqb-true m number is))
 
--- the number's packet is in place i, and `place` is what stands there afterwards
+-- the number's packet is in place i, and `place` is the value of that place afterwards
 module _ (index : List (Option ℕ)) (places : List Place) (free : List ℕ) (i number : ℕ) (place : Place)
     (p : IsPooled index places free) (e : slice_get index (number % 1024) ≡ Some (Some i)) (left : place.number ≡ None) where
   named : entry_of (slice_get places i) ≡ Some (number % 1024)

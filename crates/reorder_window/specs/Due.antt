@@ -8,21 +8,21 @@ abbrev pub lowest_moment : List Held → Option ℕ
 lowest_moment [] = None
 lowest_moment (h ∷ rest) = Some h.moment
 
--- the lowest held packet's moment plus the hold, if there is one and the sum is below 2^64
+-- the lowest buffered packet's moment plus the hold time, if there is a packet and the sum is below 2^64
 abbrev pub due_after : ℕ → Option ℕ → Option ℕ
 due_after hold None = None
 due_after hold (Some moment) = if nat_lt (moment + hold) (2 ^ 64) then Some (moment + hold) else None
 
--- The least moment at which a tick gives up a gap: the moment of the lowest held packet plus the hold. Own rule.
+-- The earliest moment at which a tick gives up a gap: the moment of the lowest buffered packet plus the hold time. Own rule.
 abbrev pub due_of : ℕ → Order → Option ℕ
 due_of hold order = due_after hold (lowest_moment order.held)
 
--- there is a due moment, and this moment is at least that
+-- there is a due moment, and `moment` has reached it
 abbrev pub IsReached : Option ℕ → ℕ → Type 0
 IsReached None moment = ⊥
 IsReached (Some due) moment = due ≤ moment
 
--- After any list of events, `next` rises at a tick exactly if the track's moment, which is below 2^64, is then at least the due moment.
+-- After any list of events, a tick raises `next` exactly if the track's moment after the tick has reached the due moment. The track's moment is below 2^64.
 abbrev pub TellsTheTick : Type 0
 TellsTheTick = (hold : ℕ) (past : List Event) (moment : ℕ) → max (order_of hold past).moment moment < 2 ^ 64
     → ((order_of hold past).next < next_ticked hold (ticked (order_of hold past) moment))

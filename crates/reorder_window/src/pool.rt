@@ -1,4 +1,4 @@
-// The packets that stay held, in places that are used again.
+// The packets that are still buffered when the next one arrives, in places that are reused.
 ghost use Rattle.packet_slot.specs.declared.TheConstants.{PACKET_BYTES};
 ghost use Rattle.std.specs.Prelude.{◌≡◌, ◌≢◌, ◌<◌, ◌≤◌, ◌%◌, ℕ, IfNone, IfOk, None, length, replicate};
 ghost use Rattle.std.specs.Option.{option_map};
@@ -12,8 +12,9 @@ use packet_slot::PacketSlot;
 use sfu_base::NoMemory;
 use std::alloc::Global;
 
-/// Packets whose numbers differ modulo [`SPAN`]: `index[n % SPAN]` is the index of the place of the packet with number n. Capacity
-/// is reserved for `SPAN` places. A place is made only when no made one is free, so there are no more than packets were held at once.
+/// Packets whose numbers differ modulo [`SPAN`]: `index[n % SPAN]` is the index of the place of the packet with number n. Capacity is reserved for
+/// `SPAN` places. A place is made only when no existing place is free. So the number of places never exceeds the largest number of packets that
+/// were in the pool at the same time.
 #[derive(Debug, Drop)]
 pub struct Pool {
     pub index: Vec<Option<u16>>,
@@ -53,7 +54,7 @@ impl Pool {
         }
     }
 
-    /// Stores a packet. No packet of the pool may have a number equal to it modulo `SPAN`.
+    /// Stores a packet. No packet in the pool may have a number that equals `number` modulo `SPAN`.
     pub fn put(&mut self, number: u64, moment: u64, bytes: &[u8])
         requires length { length bytes.now ≤ PACKET_BYTES }
         requires vacant { (n : ℕ) → n % 1024 ≡ number % 1024 → pool_at self.old.index.items self.old.places.items n ≡ None }
@@ -65,8 +66,8 @@ impl Pool {
         self.index[(number % SPAN) as usize] = Some(place);
     }
 
-    /// Copies the packet with this number to `packet`, takes it out of the pool, and returns its moment. If the pool doesn't have it, returns
-    /// `None` and changes nothing. The packets at other numbers don't change.
+    /// Removes the packet with this number from the pool, copies it to `packet`, and returns its moment. If the pool doesn't have the packet,
+    /// returns `None` and changes nothing. Packets with other numbers don't change.
     pub fn take(&mut self, number: u64, packet: &mut PacketSlot) -> Option<u64>
         ensures given { Gives (pool_at self.old.index.items self.old.places.items number) result packet.old packet.new }
         ensures none { IfNone result (self.new ≡ self.old) }
@@ -97,7 +98,8 @@ fn new_index(alloc: Global) -> Result<Vec<Option<u16>>, NoMemory>
     }
 }
 
-// Takes the index of a free place, the one that was used last, so that its memory is likely to be at hand. If none is free, makes a place.
+// Returns the index of a free place, which is then in use. Of the free places, the one that was used last is chosen, since its memory is probably
+// cached. If none is free, makes a place.
 fn choose(places: &mut Vec<Place>, free: &mut Vec<u16>) -> u16
     requires few { length free.old.items ≡ 0 → length places.old.items < 1024 }
     requires reserved { 1024 ≤ vec_capacity places.old }

@@ -18,10 +18,10 @@ use std::alloc::Global;
 use std::marker::Model;
 use wrap_number::place;
 
-/// Accepted unwrapped sequence numbers are below this one.
+/// All accepted unwrapped sequence numbers are below this number.
 pub const NUMBER_END: u64 = 1 << 46;
 
-// How many sequence numbers there are.
+// How many 16-bit sequence numbers there are.
 const SEQUENCE_NUMBERS: u64 = 65_536;
 
 /// The reorder window of one track. Contracts see its hold time, its order, and the items that are still to be fetched.
@@ -52,7 +52,8 @@ impl Model for Window {
 }
 
 impl Window {
-    /// A window before its first packet. It buffers a packet behind a gap for `hold` milliseconds. Only this call takes memory.
+    /// A window before its first packet. The window buffers a packet behind a gap for `hold` milliseconds. Returns `NoMemory` if memory runs
+    /// out. No later call allocates memory.
     pub fn new(alloc: Global, hold: u32) -> Result<Window, NoMemory>
         ensures { IfOk result (λ window. window ≡ record { hold = hold; order = before_all; waiting = [] }) }
     {
@@ -96,7 +97,8 @@ impl Window {
         Ok(())
     }
 
-    /// Time has reached `moment`, in milliseconds. The lowest gaps are given up, while the packet after each was held for the hold time.
+    /// The time is `moment`, in milliseconds. If the packet after the lowest gap has been buffered for the hold time, the gap is given up. The same
+    /// rule then applies to the next gap, and so on. All waiting items must be fetched before this call.
     pub fn tick(&mut self, moment: u64)
         requires { self.old.waiting ≡ [] }
         ensures order { self.new.order ≡ after self.old.hold self.old.order (Ticks moment) }
@@ -111,8 +113,8 @@ impl Window {
             .due_end(self.next, self.end, self.moment, self.hold);
     }
 
-    /// Returns the next item that waits to be fetched, or `None`. If the item is a packet, `slot` then has its bytes: buffers are swapped
-    /// if the packet arrived last, as each one did that came in order, otherwise bytes are copied. If it isn't, `slot` stays as it was.
+    /// Returns the next item that waits to be fetched, or `None` if none waits. If the item is a packet, its bytes are in `slot` afterwards. For the
+    /// packet that arrived last the buffers are swapped; for any other packet the bytes are copied. If the item is a gap, `slot` is unchanged.
     pub fn next_slot(&mut self, slot: &mut Box<PacketSlot>) -> Option<Item>
         ensures none { IsNone result ↔ (self.old.waiting ≡ []) }
         ensures item { result ≡ option_map item_of (slice_get self.old.waiting 0) }
@@ -122,8 +124,8 @@ impl Window {
         fetch(&mut self.ring, &mut self.given, self.next, slot)
     }
 
-    /// Returns the next item that waits to be fetched, as [`Window::next_slot`] does. If the item
-    /// is a packet, its bytes replace the contents of `buf`; otherwise `buf` stays as it was.
+    /// Returns the next item that waits to be fetched, as [`Window::next_slot`] does. If the item is a packet, its bytes replace the contents
+    /// of `buf`; otherwise `buf` is unchanged.
     pub fn next_item(&mut self, buf: &mut PacketBuf) -> Option<Item>
         ensures none { IsNone result ↔ (self.old.waiting ≡ []) }
         ensures length { length buf.new ≤ max (length buf.old) 1500 }
@@ -138,8 +140,8 @@ impl Window {
         Some(item)
     }
 
-    /// Returns the least moment, in milliseconds, at which a tick gives up a gap: the moment of the lowest held packet plus the hold. `None`
-    /// if no packet is held, or if the sum is 2^64 or more.
+    /// Returns the earliest moment, in milliseconds, at which a tick gives up a gap. This earliest moment is that of the buffered packet with
+    /// the lowest number, plus the hold time. `None` if no packet is buffered, or if the sum is 2^64 or more.
     pub fn due(&self) -> Option<u64>
         ensures { result ≡ due_of self.now.hold self.now.order }
     {
@@ -147,8 +149,8 @@ impl Window {
         lowest.checked_add(u64::from(self.hold))
     }
 
-    /// Replaces the contents of `out` by the missing sequence numbers: those from `next` up to the
-    /// greatest held number whose packets aren't held, ascending by their unwrapped numbers.
+    /// Replaces the contents of `out` by the missing sequence numbers, ascending by their unwrapped numbers. A number from `next` up to the
+    /// highest buffered one is missing if its packet isn't buffered.
     pub fn missing(&self, out: &mut SeqList)
         ensures { out.new ≡ missing_sequences self.now.order }
     {
@@ -161,8 +163,7 @@ impl Window {
     }
 }
 
-// Returns the first item among the numbers from `given` to below `next`, and moves `given` past it. If the item is a packet, `slot` then
-// has its bytes.
+// Returns the first item in `given..next`, and moves `given` past it. If the item is a packet, its bytes are in `slot` afterwards.
 #[inline(always)]
 fn fetch(ring: &mut Ring, given: &mut u64, next: u64, slot: &mut Box<PacketSlot>) -> Option<Item>
     requires within { given.old ≤ next }

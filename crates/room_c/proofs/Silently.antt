@@ -1,4 +1,4 @@
--- A call that leaves nothing in the scratch has the effects of the room's `serve`, the scratch included.
+-- A call that leaves nothing in the scratch has the effects of the room's `serve`, including those on the scratch.
 use Rattle.std.proofs.Common.{ℕ, Ok, refl}
 use Rattle.sfu_base.specs.declared.call.Call.{Call}
 use Rattle.sfu_base.specs.declared.call.Reply.{Reply}

@@ -1,4 +1,4 @@
--- What the functions on a session do.
+-- The effects of the functions on a session.
 use Rattle.std.specs.Prelude.{◌≡◌, ◌⊎◌, ◌++◌, ⊤, ℕ, suc, false, List, length, take, Option, Some, None, Result, Ok, Err}
 use Rattle.sfu_base.specs.declared.call.Call.{Call}
 use Rattle.session_steps.specs.Sessions.{Doing}
@@ -22,7 +22,7 @@ use Rattle.room_c.specs.Codes.{code_number}
 use Rattle.room_c.specs.Recording.{untold}
 use Rattle.room_c.specs.Telling.{bare_of, one_of, plain_fault}
 
--- what the session behind a handle has left to do, with this many turns left
+-- what remains of the session behind a handle, if this many turns remain
 abbrev pub left_of : Attended → ℕ → Doing
 left_of attended turns = either_left attended.session turns
 
@@ -32,7 +32,7 @@ left_of attended turns = either_left attended.session turns
 abbrev pub Begins : (ℕ → Doing) → Attended → Type 0
 Begins rule attended = (turns : ℕ) → left_of attended turns ≡ rule turns
 
--- The handle had no session and now has one with this rule; or it had one, which is unchanged; or memory ran out.
+-- The handle had no session, and now has one with this rule. Or it had a session, which is unchanged. Or memory ran out.
 abbrev pub Opens : (ℕ → Doing) → Option Attended → Option Attended → ℕ → Type 0
 Opens rule (Some old) new told = (told ≡ code_number code.HasSession) × (new ≡ Some old)
 Opens rule None None told = told ≡ code_number code.NoMemory
@@ -40,7 +40,7 @@ Opens rule None (Some new) told = (told ≡ code_number code.Done) × Begins rul
 
 -- ---- a datagram, or none
 
--- The session was busy, with a call left to make, and is unchanged; or it waited, and handled by its rule what came at this moment.
+-- The session had a call to make, and is unchanged. Or it waited, and handled by its rule the datagram, or none, of this moment.
 abbrev pub HearsAs : Attended → Attended → Option (List ℕ) → ℕ → PlainReply → Type 0
 HearsAs old new got moment told =
     ((told ≡ bare_of code.Busy) × (new ≡ old) × (call : Call) × ((turns : ℕ) → Asks (left_of old turns) call))
@@ -58,7 +58,7 @@ abbrev pub output_of : Result Output BundleFault → Output
 output_of (Ok output) = output
 output_of (Err why) = Nothing
 
--- If nothing is to be sent, no call is left; or the bundle forbids the next call, which is still to be made.
+-- If nothing is to be sent, no call remains, or the bundle forbids the next call, which is still to be made.
 abbrev pub Ends : Bundles KeepNone → (ℕ → Doing) → Result Output BundleFault → Type 0
 Ends bundles left (Ok Packet) = ⊤
 Ends bundles left (Ok Nothing) = (turns : ℕ) → Waits (left turns) turns
@@ -66,38 +66,38 @@ Ends bundles left (Err (fault.Bound bundle)) =
     (call : Call) × ((turns : ℕ) → Asks (left turns) call) × ((h : Simulcast) → StandsFor untold bundles h → forbids call h.made ≡ Some bundle)
 Ends bundles left (Err other) = ⊥
 
--- The calls of a session were made on a room with bundles, up to the next datagram to send or to a call that a bundle forbids. `before` and `after` give
--- what is left of the session, by how many turns are left.
+-- The calls of a session were made on a room with bundles, up to the next datagram to send or to a call that
+-- a bundle forbids. `before` and `after` say what remains of the session, for each number of remaining turns.
 pub record WorksFor (old new : Bundles KeepNone) (seat : ℕ) (before after : ℕ → Doing) (bytes : List ℕ) (outcome : Result Output BundleFault) : Type 0 where
   -- the entries of the calls that were made, in order
   pub made : List Entry
   -- whatever state the room and its bundles represented, they then represent it with these entries added to the history
   pub keeps : (h : Simulcast) → StandsFor untold old h → StandsFor untold new (record { history = h.history ++ made; made = h.made })
   pub stands : (history : List Entry) → Stands untold old.room history → Stands untold new.room (history ++ made)
-  -- these are the session's next calls, and the session goes on by that history's answers: at once or, if the output is a packet, once these bytes
-  -- were sent as its next datagram
+  -- these are the session's next calls; by that history's answers the session continues at
+  -- once or, if the output is a packet, after these bytes were sent as its next datagram
   pub goes_on : (history : List Entry) → Stands untold old.room history → (turns : ℕ)
       → (rest : Doing) × AreMade seat history (before turns) made rest × GoesOn rest (after turns) bytes (output_of outcome)
   pub ends : Ends new after outcome
-  -- no call runs out of memory but one that allocates
+  -- only a call that allocates memory runs out of memory
   pub memory : HaveCause false made
   -- the guarantees (`Headline`) hold for the room's history, unless no call was made
   pub headline : (new ≡ old) ⊎ StandsHeadline untold new.room
 
--- the reply for an outcome: a packet's length, or `Done`, or the bundle
+-- the reply for an outcome: the packet's length, or `Done`, or the bundle that forbids the call
 abbrev pub output_reply : Result Output BundleFault → List ℕ → PlainReply
 output_reply (Ok Nothing) packet = bare_of code.Done
 output_reply (Ok Packet) packet = one_of code.Packet (length packet)
 output_reply (Err why) packet = plain_fault why
 
--- The session's calls were made on the room, and the datagram to send, if any, is at the start of the buffer.
+-- The session's calls were made on the room. The datagram to send, if there is one, is at the start of the buffer.
 pub record WorksAs (old new : Home) (before after : Attended) (seat : ℕ) (told : PlainReply) (out : List ℕ) : Type 0 where
   pub outcome : Result Output BundleFault
   pub works : WorksFor old.bundles new.bundles seat (left_of before) (left_of after) after.scratch.packet outcome
   pub tells : told ≡ output_reply outcome after.scratch.packet
   pub gives : outcome ≡ Ok Packet → take told.first out ≡ after.scratch.packet
 
--- The same through the handles of a room and of a session: if one of them has none, both are unchanged.
+-- The same through the handles of a room and of a session: if one of the handles is empty, both are unchanged.
 abbrev pub WorksOn : Option Home → Option Home → Attended → Attended → ℕ → PlainReply → List ℕ → Type 0
 WorksOn None new before after seat told out = (told ≡ bare_of code.NoRoom) × (new ≡ None) × (after ≡ before)
 WorksOn (Some old) None before after seat told out = ⊥

@@ -1,4 +1,4 @@
--- What the functions on bundles do.
+-- The effects of the functions on bundles.
 use Rattle.std.specs.Prelude.{◌≡◌, ℕ, List, ◌⊎◌, ◌<◌, length, Option, Some, None, Result}
 use Rattle.simulcast.specs.declared.fault.BundleFault.{BundleFault}
 use Rattle.simulcast.specs.declared.pumped.Pumped.{Pumped}
@@ -10,13 +10,14 @@ use Rattle.room_c.specs.declared.plain_reply.PlainReply.{PlainReply}
 use Rattle.room_c.specs.Recording.{never, untold}
 use Rattle.room_c.specs.Telling.{bare_of, done_reply, drawn_reply, pumped_reply}
 
--- Through a handle with a room: the relation holds between the room before and after. Without a room the reply says so, and nothing changes.
+-- Through a handle with a room, the relation holds between the room before and the
+-- room after. Through a handle without one, the reply says so, and nothing changes.
 abbrev pub Through : (Home → Home → PlainReply → Type 0) → Option Home → Option Home → PlainReply → Type 0
 Through does None new told = (told ≡ bare_of NoRoom) × (new ≡ None)
 Through does (Some old) None told = ⊥
 Through does (Some old) (Some new) told = does old new told
 
--- This bundle is made, unless it is refused.
+-- This bundle is made, unless the call is refused.
 pub record MakesAs (made : Made) (old new : Home) (told : PlainReply) : Type 0 where
   pub answer : Result (Unit {0}) BundleFault
   pub bundled : Bundled untold old.bundles new.bundles made answer
@@ -25,7 +26,7 @@ pub record MakesAs (made : Made) (old new : Home) (told : PlainReply) : Type 0 w
 abbrev pub Makes : Made → Option Home → Option Home → PlainReply → Type 0
 Makes made old new told = Through (MakesAs made) old new told
 
--- The leg of the bundle is chosen, unless that is refused. The room doesn't run out of memory.
+-- The leg of the bundle is chosen, unless the call is refused. The room doesn't run out of memory.
 pub record ChoosesAs (number leg : ℕ) (old new : Home) (told : PlainReply) : Type 0 where
   pub answer : Result (Unit {0}) BundleFault
   pub chooses : Chooses untold old.bundles new.bundles number leg answer
@@ -35,7 +36,7 @@ pub record ChoosesAs (number leg : ℕ) (old new : Home) (told : PlainReply) : T
 abbrev pub ChoosesLegOf : (number leg : ℕ) → Option Home → Option Home → PlainReply → Type 0
 ChoosesLegOf number leg old new told = Through (ChoosesAs number leg) old new told
 
--- The bundle's legs are drained by its rule, and receivers have no complaint about what the bundles send.
+-- The bundle's legs are drained by its rule, and a strict receiver has no complaint about the packets that the bundles send.
 pub record PumpsAs (number : ℕ) (old new : Home) (told : PlainReply) : Type 0 where
   pub answer : Result Pumped BundleFault
   pub pumps : PumpsOne untold old.bundles new.bundles number answer
@@ -66,6 +67,6 @@ pub record RedrawsAs (number seq : ℕ) (old new : Home) (told : PlainReply) : T
 abbrev pub RedrawsFrom : (number seq : ℕ) → Option Home → Option Home → PlainReply → Type 0
 RedrawsFrom number seq old new told = Through (RedrawsAs number seq) old new told
 
--- a bundle can't have so many legs
+-- a bundle can't have this number of legs
 abbrev pub IsNoCount : List ℕ → Type 0
 IsNoCount legs = (length legs < 2) ⊎ (3 < length legs)

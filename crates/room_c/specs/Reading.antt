@@ -1,5 +1,5 @@
--- The reply, or the answer to a question, that the numbers of a `PlainReply` mean. Own rules; `code_number` has each code, and `Code` says what its
--- numbers mean.
+-- The meaning of the numbers of a `PlainReply`: a reply, or the answer to a question.
+-- Own rules; `code_number` has each code, and `Code` says what its numbers mean.
 use Rattle.std.specs.Prelude.{ℕ, ◌==◌, Bool, true, false, if◌then◌else◌, nat_lt, Option, Some, None, Result, Ok, Err}
 use Rattle.sfu_base.specs.declared.call.Reply.{Reply}
 use Rattle.sfu_base.specs.declared.call.Reply.TheVariants as reply
@@ -61,7 +61,7 @@ refusal_in r =
     if r.code == 47 then refusal.Plain else
     refusal.NoMemory
 
--- the bytes of a packet, or the sequence numbers, are not in the plain reply
+-- the plain reply doesn't contain the bytes of a packet, nor the sequence numbers
 abbrev pub reply_in : PlainReply → Reply
 reply_in r =
     if r.code == 0 then reply.Done else
@@ -71,7 +71,7 @@ reply_in r =
     if nat_lt r.code 32 then reply.Cause (verdict_in r) else
     reply.Refused (refusal_in r)
 
--- the answer of a room with bundles: it has the number of the bundle that forbids the call, or it is the room's reply
+-- the answer of a room with bundles: the number of the bundle that forbids the call, or the room's reply
 abbrev pub answer_in : PlainReply → Result Reply BundleFault
 answer_in r = if r.code == 52 then Err (bundle.Bound r.first) else Ok (reply_in r)
 
@@ -80,17 +80,17 @@ answer_in r = if r.code == 52 then Err (bundle.Bound r.first) else Ok (reply_in 
 abbrev pub layers_in : PlainTarget → Option Wish
 layers_in t = if t.known then Some (record { spatial = t.spatial; temporal = t.temporal }) else None
 
--- the decode target, or none; or the refusal
+-- the decode target, or none, or the refusal
 abbrev pub target_in : PlainReply → PlainTarget → Result (Option DecodeTarget) Refusal
 target_in r t =
     if r.code == 5 then Ok (if r.has then Some (record { index = t.index; layers = layers_in t }) else None)
     else Err (refusal_in r)
 
--- whether the wish is reached; or the refusal
+-- whether the wish is reached, or the refusal
 abbrev pub reached_in : PlainReply → Result Bool Refusal
 reached_in r = if r.code == 4 then Ok r.has else Err (refusal_in r)
 
--- an optional number with this code; or the refusal
+-- an optional number with this code, or the refusal
 abbrev pub number_in : ℕ → PlainReply → Result (Option ℕ) Refusal
 number_in code r = if r.code == code then Ok (there r.has r.first) else Err (refusal_in r)
 
@@ -102,7 +102,7 @@ due_in r = number_in 6 r
 abbrev pub newest_in : PlainReply → Result (Option ℕ) Refusal
 newest_in r = number_in 7 r
 
--- what is counted of a subscriber, and of a track; or the refusal
+-- the counts of a subscriber, and those of a track, or the refusal
 abbrev pub subscriber_counts_of : PlainSubscriberCounts → SubscriberCounts
 subscriber_counts_of c = record {
   passed = c.passed;

@@ -1,4 +1,4 @@
--- The question which of a track's subscribers have packets queued. Own rule.
+-- The question of which subscribers of a track have packets queued. Own rule.
 use Rattle.std.specs.Prelude.{◌≡◌, ℕ, List, Option, Some, None, length}
 use Rattle.room_core.specs.History.{Entry, accepted}
 use Rattle.room_core.specs.Ready.{AreReady}
@@ -9,12 +9,13 @@ use Rattle.room_c.specs.declared.plain_reply.PlainReply.{PlainReply}
 use Rattle.room_c.specs.Recording.{untold}
 use Rattle.room_c.specs.Telling.{bare_of, one_of}
 
--- For every history that the room represents, the list has numbers of such subscribers, each once, and all unless it is full. The reply says how many.
+-- For every history that the room represents: the list has numbers of such subscribers,
+-- each once, and has all of them unless it is full. The reply has their count.
 pub record TellsReady (home : Home) (track limit : ℕ) (told : PlainReply) (listed : List ℕ) : Type 0 where
   pub asks : (history : List Entry) → Stands untold home.bundles.room history → AreReady track limit (accepted history) listed
   pub exact : told ≡ one_of Ready (length listed)
 
--- without a room nothing is written
+-- if the handle has no room, nothing is written
 abbrev pub AsksReady : Option Home → (track limit : ℕ) → PlainReply → (listed : List ℕ) → Type 0
 AsksReady None track limit told listed = told ≡ bare_of NoRoom
 AsksReady (Some home) track limit told listed = TellsReady home track limit told listed

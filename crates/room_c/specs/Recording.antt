@@ -1,4 +1,4 @@
--- The recorder of the room behind a handle, and what the room represents. Own rule.
+-- The recorder of the room behind a handle, and the state that the room represents. Own rule.
 use Rattle.std.specs.Prelude.{Bool, false, List, Option, None}
 use Rattle.room_core.specs.Noted.{Noted}
 use Rattle.room_core.specs.declared.recorder.KeepNone.{KeepNone}

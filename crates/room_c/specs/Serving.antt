@@ -23,14 +23,14 @@ use Rattle.room_c.specs.Reading.{answer_in, due_in, newest_in, reached_in, reply
 use Rattle.room_c.specs.Telling.{answer_reply, bare_of, number_reply, reached_reply, target_reply, target_written}
 use Rattle.room_c.specs.Telling.{subscriber_counts_reply, subscriber_counts_written, track_counts_reply, track_counts_written}
 
--- For this call of this seat the room changes and replies as `Room::serve` does, with the reply's content in the scratch; exactly if the call is a take
--- or leave of a leg it is refused instead, and nothing changes. The result has the numbers of this answer and no others.
+-- For this call of this seat the room changes and replies as `Room::serve` does, and the scratch has the reply's content. If and only if the
+-- call is a take or leave of a leg, it is refused instead, and nothing changes. The result has the numbers of this answer and no others.
 pub record DoesAsBundles (old new : Home) (seat : ℕ) (call : Call) (told : PlainReply) : Type 0 where
   pub calls : Calls untold old.bundles new.bundles seat call new.scratch.packet new.scratch.names (answer_in told)
   pub whole : CallsWhole untold never old.bundles new.bundles seat call old.scratch new.scratch (answer_in told)
   pub exact : told ≡ answer_reply new.scratch (answer_in told)
 
--- The effect of a call through a handle: without a room, the reply says so and nothing changes.
+-- The effect of a call through a handle. Without a room, the reply says so and nothing changes.
 abbrev pub Does : Option Home → Option Home → ℕ → Call → PlainReply → Type 0
 Does None new seat call told = (new ≡ None) × (told ≡ bare_of NoRoom)
 Does (Some old) None seat call told = ⊥
@@ -41,13 +41,13 @@ abbrev pub GivesBytes : Option Home → PlainReply → List ℕ → Type 0
 GivesBytes None told out = ⊤
 GivesBytes (Some home) told out = reply_in told ≡ reply.Packet → take told.first out ≡ home.scratch.packet
 
--- if the reply is sequence numbers, they are at the start of the buffer
+-- if the reply has sequence numbers, they are at the start of the buffer
 abbrev pub GivesNumbers : Option Home → PlainReply → List ℕ → Type 0
 GivesNumbers None told out = ⊤
 GivesNumbers (Some home) told out = reply_in told ≡ reply.Names → take told.first out ≡ home.scratch.names
 
--- The result of a question: for every history that the room represents, it has the numbers of that history's answer and no others. The decode target
--- is written if there is one.
+-- The result of a question. For every history that the room represents, the result has the
+-- numbers of that history's answer and no others. The decode target is written if there is one.
 pub record TellsTarget (home : Home) (subscriber : ℕ) (told : PlainReply) (old new : PlainTarget) (answer : Result (Option DecodeTarget) Refusal) : Type 0 where
   pub asks : (history : List Entry) → Stands untold home.bundles.room history → IsTargetOf history subscriber answer
   pub exact : told ≡ target_reply answer

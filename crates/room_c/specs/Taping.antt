@@ -1,4 +1,4 @@
--- What the functions on a recorder do.
+-- The effects of the functions on a recorder.
 use Rattle.std.specs.Prelude.{◌≡◌, ◌==◌, ℕ, [], List, drop, length, min, take, if◌then◌else◌, Option, Some, None, Result, Ok, Err}
 use Rattle.forwarding_model.specs.declared.complaint.Complaint.{Complaint}
 use Rattle.forwarding_model.specs.declared.complaint.Complaint.TheVariants as complaint
@@ -16,7 +16,7 @@ use Rattle.room_c.specs.Telling.{bare_of, two_of}
 
 -- ---- opening
 
--- The handle had no recorder and now has one without packets; or it had one, which is unchanged; or memory ran out.
+-- The handle had no recorder, and now has one without packets. Or it had a recorder, which is unchanged. Or memory ran out.
 abbrev pub OpensRecorder : ℕ → Option Tape → Option Tape → ℕ → Type 0
 OpensRecorder id (Some old) new told = (told ≡ code_number code.HasRecorder) × (new ≡ Some old)
 OpensRecorder id None None told = told ≡ code_number code.NoMemory
@@ -25,7 +25,7 @@ OpensRecorder id None (Some (Giving rest)) told = ⊥
 
 -- ---- a packet
 
--- what the strict receiver complains about, as numbers: the packet's come first
+-- the complaint of the strict receiver as numbers; the packet's own number comes first
 abbrev pub complaint_reply : Complaint → PlainReply
 complaint_reply complaint.Unread = bare_of code.Unread
 complaint_reply (complaint.OtherSource had got) = two_of code.OtherSource got had
@@ -34,14 +34,14 @@ complaint_reply complaint.NoStructure = bare_of code.NoStructure
 complaint_reply complaint.NotWhole = bare_of code.NotWhole
 complaint_reply (complaint.MissingReference frame fdiff) = two_of code.MissingReference frame fdiff
 
--- the outcome of a packet as numbers
+-- the result of feeding a packet, as numbers
 abbrev pub fed_reply : Result (Unit {0}) RecordFault → PlainReply
 fed_reply (Ok _) = bare_of code.Done
 fed_reply (Err (fault.Complaint c)) = complaint_reply c
 fed_reply (Err fault.Obu) = bare_of code.NotObu
 fed_reply (Err fault.NoMemory) = bare_of code.NoMemory
 
--- The recorder was fed this packet, and its outcome is told. After a fault it returns that fault, and changes nothing.
+-- The recorder was fed this packet, and the reply has the result. After a fault it returns that fault, and changes nothing.
 pub record FeedsAs (old new : Recording) (packet : List ℕ) (told : PlainReply) : Type 0 where
   pub answer : Result (Unit {0}) RecordFault
   pub feeds : (history : List (List ℕ)) → StandsFor old history → FeedsRecorder old.fault old.receiver.id new history packet answer
@@ -61,25 +61,25 @@ Feeds (Some old) (Some new) packet told = FeedsTape old new packet told
 
 -- ---- the file
 
--- how many bytes of a file were written according to the reply
+-- the number of bytes of a file that were written, according to the reply
 abbrev pub file_bytes_written : PlainReply → ℕ
 file_bytes_written r = if r.code == 8 then r.first else 0
 
--- how many of these bytes are written to a buffer with this space
+-- the number of these bytes that are written to a buffer with this space
 abbrev pub piece_of : ℕ → List ℕ → ℕ
 piece_of space left = min space (length left)
 
--- so many bytes were written, and so many are left
+-- `count` bytes were written, and `left` bytes are left
 abbrev pub piece_reply : (count left : ℕ) → PlainReply
 piece_reply count left = if count == 0 then bare_of code.Done else two_of code.FilePiece count left
 
--- The next bytes of these are at the start of the buffer, as many as it has space for, and the others are left.
+-- The next of these bytes that fit into the buffer are at its start, and the others are left.
 pub record GivesOf (left : List ℕ) (new : Tape) (space : ℕ) (told : PlainReply) (out : List ℕ) : Type 0 where
   pub tells : told ≡ piece_reply (piece_of space left) (length (drop (piece_of space left) left))
   pub gives : take (piece_of space left) out ≡ take (piece_of space left) left
   pub others : new ≡ Giving (drop (piece_of space left) left)
 
--- These bytes are still to be fetched: the file of packets that a recorder stands for or, once it is finished, what is left.
+-- These bytes are still to be fetched: the file of the packets that a recorder represents or, once it is finished, the rest of the file.
 abbrev pub HasLeft : Tape → List ℕ → Type 0
 HasLeft (Taking recorder) left = (history : List (List ℕ)) × StandsFor recorder history × (left ≡ ivf_over recorder.receiver.id history)
 HasLeft (Giving rest) left = left ≡ rest

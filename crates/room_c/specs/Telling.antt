@@ -54,7 +54,7 @@ number_of_fault fault.Csrc = 2
 number_of_fault fault.Extension = 3
 number_of_fault fault.Padding = 4
 
--- the frame above the hole, and the one below, if it is near
+-- the frame above the hole, and the frame below it, if that is near
 abbrev pub hole_of : Option ℕ → ℕ → PlainReply
 hole_of None above = record { code = code_number coded.Hole; has = false; first = above; second = 0 }
 hole_of (Some below) above = two_of coded.Hole above below
@@ -88,7 +88,7 @@ plain_refusal (refusal.TooOld oldest) = one_of coded.TooOld oldest
 plain_refusal refusal.Plain = bare_of coded.Plain
 plain_refusal refusal.NoMemory = bare_of coded.NoMemory
 
--- The numbers of a reply, with the content of the scratch: for a packet or for sequence numbers, how many there are.
+-- The numbers of a reply, with the content of the scratch: for a packet its length, for sequence numbers their count.
 unfoldable pub plain_of : Scratch → Reply → PlainReply
 plain_of scratch reply.Done = bare_of coded.Done
 plain_of scratch reply.Packet = one_of coded.Packet (length scratch.packet)
@@ -99,7 +99,7 @@ plain_of scratch (reply.Refused why) = plain_refusal why
 
 -- ---- bundles
 
--- why a room with bundles refused
+-- the reason why a room with bundles refused the call
 abbrev pub plain_fault : BundleFault → PlainReply
 plain_fault bundle.NoBundle = bare_of coded.NoBundle
 plain_fault (bundle.NumberUsed highest) = one_of coded.NumberUsed highest
@@ -115,7 +115,7 @@ abbrev pub answer_reply : Scratch → Result Reply BundleFault → PlainReply
 answer_reply scratch (Ok given) = plain_of scratch given
 answer_reply scratch (Err why) = plain_fault why
 
--- of a new bundle, or of a choice
+-- for a new bundle, or for a choice
 abbrev pub done_reply : Result (Unit {0}) BundleFault → PlainReply
 done_reply (Ok _) = bare_of coded.Done
 done_reply (Err why) = plain_fault why
@@ -124,14 +124,14 @@ abbrev pub pumped_reply : Result Pumped BundleFault → PlainReply
 pumped_reply (Ok pumped) = two_of coded.Pumped pumped.forwarded pumped.dropped
 pumped_reply (Err why) = plain_fault why
 
--- of a packet that is drawn or redrawn, which has this length
+-- for a packet of this length that is drawn or redrawn
 abbrev pub drawn_reply : {A : Type 0} → ℕ → Result A BundleFault → PlainReply
 drawn_reply size (Ok _) = one_of coded.Packet size
 drawn_reply size (Err why) = plain_fault why
 
 -- ---- buffers
 
--- how many bytes, or sequence numbers, were written according to the reply
+-- the number of bytes, or of sequence numbers, that were written, according to the reply
 abbrev pub bytes_written : PlainReply → ℕ
 bytes_written r = if r.code == 1 then r.first else 0
 
@@ -153,7 +153,7 @@ target_reply (Ok None) = flag_of coded.Target false
 target_reply (Ok (Some target)) = flag_of coded.Target true
 target_reply (Err why) = plain_refusal why
 
--- a target, if there is one, is written; else `out` is unchanged
+-- a target is written if there is one; otherwise `out` is unchanged
 unfoldable pub target_written : Result (Option DecodeTarget) Refusal → PlainTarget → PlainTarget
 target_written (Ok None) out = out
 target_written (Ok (Some target)) out = plain_target target
@@ -205,7 +205,7 @@ unfoldable pub track_counts_reply : Result TrackCounts Refusal → PlainReply
 track_counts_reply (Ok counts) = bare_of coded.Counts
 track_counts_reply (Err why) = plain_refusal why
 
--- the counts are written; on a refusal `out` is unchanged
+-- the counts are written; after a refusal `out` is unchanged
 unfoldable pub subscriber_counts_written : Result SubscriberCounts Refusal → PlainSubscriberCounts → PlainSubscriberCounts
 subscriber_counts_written (Ok counts) out = plain_subscriber_counts counts
 subscriber_counts_written (Err why) out = out

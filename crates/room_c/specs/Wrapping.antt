@@ -1,4 +1,4 @@
--- Why a packet isn't wrapped for a retransmission stream, or unwrapped: the first reason here. Own rule.
+-- The reason why a packet isn't wrapped for a retransmission stream, or unwrapped: the first one that applies here. Own rule.
 use Rattle.std.specs.Prelude.{ℕ, nat_le, nat_lt, if◌then◌else◌, List, length, Option, Some}
 use Rattle.std.specs.Option.{option_map}
 use Rattle.sfu_base.specs.declared.call.Refusal.TheVariants.{Unreadable}
@@ -11,7 +11,7 @@ use Rattle.room_c.specs.declared.code.Code.TheVariants as code
 use Rattle.room_c.specs.declared.plain_reply.PlainReply.{PlainReply}
 use Rattle.room_c.specs.Telling.{bare_of, one_of, plain_refusal}
 
--- the buffer is too small, the bytes are more than `most`, or the payload type has more than seven bits; else what `other` says
+-- the buffer is too small, the packet has more than `most` bytes, or the payload type has more than seven bits; otherwise `other`
 abbrev pub refused_first : (space most : ℕ) → List ℕ → ℕ → Option PlainReply → Option PlainReply
 refused_first space most bytes payload_type other =
     if nat_lt space 2048 then Some (bare_of code.NoSpace) else

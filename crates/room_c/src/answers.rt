@@ -1,4 +1,4 @@
-// Writing a reply's bytes or sequence numbers to C's buffer.
+// Writes the bytes or the sequence numbers of a reply to C's buffer.
 ghost use Rattle.std.specs.Prelude.{◌≡◌, ◌<◌, ◌≤◌, IfErr, Ok, drop, length, take};
 ghost use Rattle.sfu_base.specs.declared.call.Reply.TheVariants as reply;
 ghost use Rattle.simulcast.specs.Bundles.{IsBound};
@@ -11,13 +11,13 @@ use crate::plain_reply::PlainReply;
 use sfu_base::{PacketBuf, Reply, Scratch};
 use simulcast::BundleFault;
 
-/// The least length of a buffer for a packet, in bytes.
+/// The minimum length of a buffer for a packet, in bytes.
 pub const PACKET_ROOM: usize = 2048;
 
-/// The least length of a buffer for sequence numbers, in items.
+/// The minimum length of a buffer for sequence numbers, in items.
 pub const NAMES_ROOM: usize = 1024;
 
-/// Writes a packet to the start of `out`, which has at least 2,048 bytes.
+/// Writes a packet to the start of `out`, which must have at least 2,048 bytes. Returns `Packet` with the packet's length.
 pub fn give_packet(packet: &PacketBuf, out: &mut [u8]) -> PlainReply
     requires { 2048 ≤ length out.old }
     ensures tells { result ≡ one_of code.Packet (length packet.now) }
@@ -29,9 +29,9 @@ pub fn give_packet(packet: &PacketBuf, out: &mut [u8]) -> PlainReply
     PlainReply::with(Code::Packet, bytes.len() as u64)
 }
 
-// As `give_answer`, for a reply.
+/// If the reply of a room is a packet, writes the packet to the start of `out`, which must have at least 2,048 bytes. Returns the reply as numbers.
 #[tactic(auto, unfolding(crate::specs::Telling::plain_of))]
-fn give_bytes(answer: &Reply, scratch: &Scratch, out: &mut [u8]) -> PlainReply
+pub fn give_bytes(answer: &Reply, scratch: &Scratch, out: &mut [u8]) -> PlainReply
     requires { 2048 ≤ length out.old }
     ensures told { reply_in result ≡ answer.now }
     ensures code { result.code < 49 }
@@ -46,7 +46,7 @@ fn give_bytes(answer: &Reply, scratch: &Scratch, out: &mut [u8]) -> PlainReply
     }
 }
 
-/// Writes a packet that a room with bundles returned, if any, to the start of `out`, which has at least 2,048 bytes. Returns the answer as numbers.
+/// If a room with bundles returned a packet, writes the packet to the start of `out`, which must have at least 2,048 bytes. Returns the answer as numbers.
 pub fn give_answer(
     answer: Result<Reply, BundleFault>,
     scratch: &Scratch,
@@ -66,8 +66,7 @@ pub fn give_answer(
     }
 }
 
-/// Writes the sequence numbers that a room with bundles returned, if any, to the start of `out`, which has at least 1,024 items. Returns the answer as
-/// numbers.
+/// If a room with bundles returned sequence numbers, writes them to the start of `out`, which must have at least 1,024 items. Returns the answer as numbers.
 pub fn give_numbers(
     answer: Result<Reply, BundleFault>,
     scratch: &Scratch,
@@ -87,7 +86,7 @@ pub fn give_numbers(
     }
 }
 
-// As `give_numbers`, for a reply.
+// Does the same as `give_numbers`, but for a `Reply`, which is never a `BundleFault`.
 #[tactic(auto, unfolding(crate::specs::Telling::plain_of))]
 fn give_named(answer: &Reply, scratch: &Scratch, out: &mut [u16]) -> PlainReply
     requires { 1024 ≤ length out.old }

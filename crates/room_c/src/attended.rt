@@ -17,7 +17,7 @@ impl Attended {
     ghost use Rattle.sfu_base.specs.Links.{datagram};
     ghost use Rattle.room_c.specs.Attending.{HearsAs};
 
-    /// This session, with empty buffers.
+    /// Returns a value with this session and empty buffers.
     pub fn new(session: EitherSession) -> Attended
         ensures { result.session ≡ session }
     {
@@ -30,8 +30,8 @@ impl Attended {
         }
     }
 
-    /// Begins a turn of the session with this datagram or, if `came` is false, with none. `Busy`: the session still has a call to make, and nothing
-    /// changes.
+    /// Begins a turn of the session. If `came` is true, `bytes` is the received datagram. If `came` is false, no datagram was received. Returns `Busy` if the
+    /// session still has a call to make; nothing changes then.
     pub fn hear(&mut self, came: bool, moment: u64, bytes: &[u8]) -> PlainReply
         requires { length bytes.now ≤ 2048 }
         ensures { HearsAs self.old self.new (datagram came bytes.now) moment result }

@@ -1,5 +1,5 @@
-// Calls on bundles: each merges two or three subscribers of layered tracks, its legs, into one stream. Takes and pleas of bundles are by seat 0. If the
-// handle has no room: `NoRoom`, unless `BadLegs` or `NoSpace` applies.
+// Calls on bundles. A bundle merges the packets of its legs into one stream. The legs are two or three subscribers of layered tracks. Seat 0 makes the takes
+// and pleas of all bundles. If the handle has no room, a call returns `NoRoom`, unless `BadLegs` or `NoSpace` applies.
 ghost use Rattle.std.specs.Prelude.{◌≡◌, ◌<◌, ◌≤◌, drop, length};
 ghost use Rattle.simulcast.specs.Made.{just_made, just_renumbered};
 ghost use Rattle.room_c.specs.declared.code.Code.TheVariants.{BadLegs, NoSpace};
@@ -14,9 +14,9 @@ use crate::home::Home;
 use crate::plain_reply::PlainReply;
 use std::alloc::Global;
 
-/// Creates a bundle, as `Bundles::bundle` does. Its legs are two or three subscribers of layered tracks with the header extension id `id`. Its packets have
-/// this SSRC and sequence numbers from `first` on. Leg 1 is chosen. Returns `Done`. Refusals, after which nothing changes: `NumberUsed`, `TooMany`,
-/// `NoSubscriber`, `Bound`, `WrongKind`, `NoMemory`. `BadLegs`: there are fewer than two legs, or more than three; nothing changes.
+/// Creates a bundle, as `Bundles::bundle` does. The legs are two or three subscribers of layered tracks with the header extension id `id`. The bundle's
+/// packets have this SSRC, and their sequence numbers start at `first`. Leg 1 is chosen. Returns `Done`. Refusals, after which nothing changes: `NumberUsed`,
+/// `TooMany`, `NoSubscriber`, `Bound`, `WrongKind`, `NoMemory`. `BadLegs`: there are fewer than two legs, or more than three; nothing changes.
 #[unsafe(no_mangle)]
 pub extern "C" fn zoftemar_bundle(
     alloc: Global,
@@ -44,7 +44,8 @@ pub extern "C" fn zoftemar_bundle(
     }
 }
 
-/// Creates a bundle whose frame numbers continue over a change of leg, as `Bundles::bundle_renumbered` does. The codes are those of `zoftemar_bundle`.
+/// Creates a bundle, as `Bundles::bundle_renumbered` does. The bundle's frame numbers continue over a change of leg. The codes are those of
+/// `zoftemar_bundle`.
 #[unsafe(no_mangle)]
 pub extern "C" fn zoftemar_bundle_renumbered(
     alloc: Global,
@@ -74,8 +75,8 @@ pub extern "C" fn zoftemar_bundle_renumbered(
     }
 }
 
-/// Chooses the leg that a bundle forwards from the leg's next key frame on, as `Bundles::choose` does; the first leg is 1. If the leg isn't active, a key
-/// frame of its track is requested. Returns `Done`. Refusals, after which nothing changes: `NoBundle`, `NoLeg`.
+/// Chooses a leg of a bundle, as `Bundles::choose` does. Legs are counted from 1. The bundle forwards the leg from the leg's next key frame on. If the leg
+/// isn't active, a key frame of the leg's track is requested. Returns `Done`. Refusals, after which nothing changes: `NoBundle`, `NoLeg`.
 #[unsafe(no_mangle)]
 pub extern "C" fn zoftemar_choose(
     alloc: Global,
@@ -100,8 +101,8 @@ pub extern "C" fn zoftemar_choose(
     }
 }
 
-/// Takes the packets that are queued for a bundle's legs, as `Bundles::pump` does, and queues those that the bundle forwards. Returns `Pumped`. Refusal, after
-/// which nothing changes: `NoBundle`.
+/// Takes the packets that are queued for a bundle's legs, as `Bundles::pump` does, and queues the packets that the bundle forwards. Returns `Pumped`.
+/// Refusal, after which nothing changes: `NoBundle`.
 #[unsafe(no_mangle)]
 pub extern "C" fn zoftemar_pump(alloc: Global, room: &mut Handle, bundle: u32) -> PlainReply
     ensures { Pumps bundle room.old.held.home room.new.held.home result }
@@ -121,8 +122,8 @@ pub extern "C" fn zoftemar_pump(alloc: Global, room: &mut Handle, bundle: u32) -
     }
 }
 
-/// Takes a bundle's oldest queued packet, as `Bundles::draw` does, and writes it to the start of `out`. Returns `Packet`; the packet has its sequence number.
-/// Refusals: `NoBundle`, `Empty`. `NoSpace`: `out` has fewer than 2,048 bytes. Nothing changes then.
+/// Takes the oldest queued packet of a bundle, as `Bundles::draw` does, and writes the packet to the start of `out`. Returns `Packet`. The sequence number is
+/// in the packet. Refusals: `NoBundle`, `Empty`. `NoSpace`: `out` has fewer than 2,048 bytes. After a refusal or `NoSpace`, nothing changes.
 #[unsafe(no_mangle)]
 pub extern "C" fn zoftemar_draw(
     alloc: Global,
@@ -156,8 +157,9 @@ pub extern "C" fn zoftemar_draw(
     }
 }
 
-/// Writes a packet that a bundle sent before, with this sequence number, to the start of `out`, as `Bundles::redraw` does for a NACK (RFC 4585, section
-/// 6.2.1). Returns `Packet`. Refusals: `NoBundle`, `NotKept`. `NoSpace`: `out` has fewer than 2,048 bytes. Nothing changes then.
+/// Writes a packet that was drawn from a bundle before to the start of `out`, as `Bundles::redraw` does for a NACK (RFC 4585, section 6.2.1). `seq` is the
+/// packet's sequence number. Returns `Packet`. Refusals: `NoBundle`, `NotKept`. `NoSpace`: `out` has fewer than 2,048 bytes. After a refusal or `NoSpace`,
+/// nothing changes.
 #[unsafe(no_mangle)]
 pub extern "C" fn zoftemar_redraw(
     alloc: Global,

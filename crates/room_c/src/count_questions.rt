@@ -1,4 +1,4 @@
-// Questions about what is counted. Like those of `questions`, they read the handle and the room, and write to neither.
+// Questions about the counts of a subscriber or a track. Like the questions in `questions`, they read the handle and the room, and don't write to either.
 ghost use Rattle.std.specs.Prelude.{◌≡◌};
 ghost use Rattle.room_c.specs.Reading.{subscriber_counts_in, track_counts_in};
 ghost use Rattle.room_c.specs.Serving.{AsksSubscriberCounts, AsksTrackCounts};
@@ -11,8 +11,8 @@ use crate::plain_reply::PlainReply;
 use room_core::{SubscriberCounts, TrackCounts};
 use sfu_base::Refusal;
 
-/// Writes to `out` what is counted of a subscriber since its join (see `Room::subscriber_counts`). Returns `Counts`. On a refusal, `out` is unchanged.
-/// Refusal: `NoSubscriber`.
+/// Writes the counts of a subscriber since its join to `out` (see `Room::subscriber_counts`). Returns `Counts`. After a refusal, `out` is unchanged. Refusal:
+/// `NoSubscriber`.
 #[unsafe(no_mangle)]
 pub extern "C" fn zoftemar_counts_of_subscriber(
     room: &mut Handle,
@@ -35,8 +35,8 @@ pub extern "C" fn zoftemar_counts_of_subscriber(
     )
 }
 
-/// Writes to `out` what is counted of a track since its publish (see `Room::track_counts`). Returns `Counts`. On a refusal, `out` is unchanged.
-/// Refusal: `NoTrack`.
+/// Writes the counts of a track since its publish to `out` (see `Room::track_counts`). Returns `Counts`. After a refusal, `out` is unchanged. Refusal:
+/// `NoTrack`.
 #[unsafe(no_mangle)]
 pub extern "C" fn zoftemar_counts_of_track(
     room: &mut Handle,

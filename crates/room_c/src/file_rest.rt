@@ -1,10 +1,10 @@
-// The bytes of a file that are still to be fetched.
+// The bytes of a file that C hasn't fetched yet.
 ghost use Rattle.std.specs.Prelude.{◌≡◌, drop, length, min, take};
 
 use sfu_base::Blob;
 use std::marker::Model;
 
-/// What is left of a file whose bytes are fetched in pieces. Contracts see it as the list of these bytes.
+/// The remaining bytes of a file that is fetched in pieces. Contracts see the list of the remaining bytes.
 #[derive(Drop)]
 pub struct FileRest {
     file: Blob,
@@ -22,21 +22,21 @@ impl Model for FileRest {
 }
 
 impl FileRest {
-    /// A file of which no byte was fetched yet.
+    /// Returns all bytes of this file as remaining bytes.
     pub fn of(file: Blob) -> FileRest
         ensures { result ≡ file }
     {
         FileRest { file, given: 0 }
     }
 
-    /// How many bytes are left.
+    /// Returns the number of remaining bytes.
     pub fn len(&self) -> usize
         ensures { result ≡ length self.now }
     {
         self.file.bytes().len() - self.given
     }
 
-    /// Moves the next bytes to the start of `out`, as many as it has capacity for. Returns how many.
+    /// Moves the next bytes to the start of `out`, as many as fit into `out`. Returns the number of bytes moved.
     pub fn give(&mut self, out: &mut [u8]) -> usize
         ensures count { result ≡ min (length out.old) (length self.old) }
         ensures gives { take result out.new ≡ take result self.old }

@@ -12,7 +12,7 @@ use sfu_base::Call;
 use std::alloc::Global;
 use std::mem::replace;
 
-/// A handle that has a room or none. C keeps its 16 bytes, at first all 0, and may pass it from thread to thread.
+/// A handle that has a room or none. C stores the 16 bytes of the handle, which are all 0 at first. C may pass the handle from thread to thread.
 #[repr(C)]
 pub struct Handle {
     made: bool,
@@ -21,7 +21,7 @@ pub struct Handle {
 }
 
 impl Handle {
-    /// A handle that has no room.
+    /// Returns a handle that has no room.
     pub fn empty(alloc: Global) -> Handle
         ensures { result.held.home ≡ None }
     {
@@ -31,7 +31,7 @@ impl Handle {
         }
     }
 
-    /// A handle that has this room.
+    /// Returns a handle that has this room.
     pub fn of(home: Box<Home>) -> Handle
         ensures { result.held.home ≡ Some home.value }
     {
@@ -41,14 +41,14 @@ impl Handle {
         }
     }
 
-    /// Whether the handle has a room.
+    /// Returns whether the handle has a room.
     pub fn has_home(&self) -> bool
         ensures { result ≡ is_some self.now.held.home }
     {
         self.made
     }
 
-    /// The handle's room, or `None` if it has none.
+    /// Returns the handle's room, or `None` if the handle has no room.
     pub fn into_home(self) -> Option<Box<Home>>
         ensures { self.held.home ≡ option_map (λ home. home.value) result }
     {
@@ -61,7 +61,7 @@ impl Handle {
         }
     }
 
-    /// Takes the room out of the handle, which then has no room.
+    /// Removes the room from the handle and returns it, or returns `None` if the handle has no room. Afterwards the handle has no room.
     pub fn take(&mut self, alloc: Global) -> Option<Box<Home>>
         ensures taken { self.old.held.home ≡ option_map (λ home. home.value) result }
         ensures empty { self.new.held.home ≡ None }
@@ -69,15 +69,15 @@ impl Handle {
         replace(self, Handle::empty(alloc)).into_home()
     }
 
-    /// Puts a room into the handle. Drops the room that the handle had before, if any.
+    /// Puts this room into the handle. If the handle already had a room, drops the old one.
     pub fn put(&mut self, home: Box<Home>)
         ensures { self.new.held.home ≡ Some home.value }
     {
         drop(replace(self, Handle::of(home)).into_home());
     }
 
-    /// Serves one call of a seat on the room. `NoRoom`: the handle has no room. `Bound`: the call is a take or leave of a bundle's leg. Nothing changes
-    /// then.
+    /// Serves one call from this seat on the room. Returns `NoRoom` if the handle has no room. Returns `Bound` if the call is a take or a leave of a bundle's
+    /// leg. In both cases nothing changes.
     pub fn serve(&mut self, alloc: Global, seat: u32, call: &Call) -> PlainReply
         ensures does { Does self.old.held.home self.new.held.home seat call.now result }
     {

@@ -1,4 +1,4 @@
-// The pointer in a room's handle. Its type names no other type.
+// The pointer in a room's handle. The pointer's type, `*mut u8`, names no other type.
 ghost use Rattle.std.specs.Prelude.{◌≡◌, Option, Some, None, is_some, false, true};
 ghost use Rattle.room_c.specs.declared.home.Home.{Home};
 ghost use Rattle.room_c.specs.Owned.{home_coded, home_owned};
@@ -8,8 +8,8 @@ use crate::parts::Parts;
 use std::alloc::Global;
 use std::marker::Model;
 
-/// The pointer of a `Box<Home>`, or a pointer that owns nothing. A type that contains or names a `Box` can't cross to C. So the pointer is a
-/// plain `*mut u8`, and the ghost field `home` says what it owns. The type is linear: a value that owns a room can only be turned into its box.
+/// The pointer of a `Box<Home>`, or a pointer that owns nothing. A type that contains or names a `Box` can't be passed to C. So the pointer is `*mut u8`, and
+/// the ghost field `home` says what the pointer owns. The type is linear: a value that owns a room can only be converted to its box.
 #[repr(C)]
 pub struct Held {
     at: *mut u8,
@@ -21,14 +21,14 @@ impl Model for Held {
     ghost also_owns = { λ h. home_owned h.alloc h.at h.home };
 }
 
-// The pointer may move to another thread, as its box may.
+// The pointer may move to another thread, because the box may.
 unsafe impl Send for Held {}
 
 impl Held {
     ghost use Rattle.std.specs.Borrow.{sem};
     ghost use Rattle.room_c.specs.Lending.{KeepsRoom};
 
-    /// A value that owns the box with these parts.
+    /// Returns a value that owns the box with these parts.
     pub fn of_parts(parts: Parts<Home, Global>) -> Held
         ensures { result.home ≡ Some parts.value }
     {
@@ -39,7 +39,7 @@ impl Held {
         }
     }
 
-    /// The parts of the box that this value owns.
+    /// Returns the parts of the box that this value owns.
     pub fn into_parts(self) -> Parts<Home, Global>
         requires { is_some self.home ≡ true }
         ensures { Some result.value ≡ self.home }
@@ -51,7 +51,7 @@ impl Held {
         }
     }
 
-    /// The room of the box that this value owns. Only the pointer is read.
+    /// Returns a reference to the room in the box that this value owns. Reads only the pointer.
     pub fn home(&mut self) -> &Home
         requires { is_some self.old.home ≡ true }
         ensures* keeps { sem 𝓛 (KeepsRoom self.entry) }
@@ -60,7 +60,7 @@ impl Held {
         unsafe { &*(self.at as *const Home) }
     }
 
-    /// A value that owns nothing: the pointer is null.
+    /// Returns a value that owns nothing. Its pointer is null.
     pub fn nothing(alloc: Global) -> Held
         ensures { result.home ≡ None }
     {
@@ -70,7 +70,7 @@ impl Held {
         }
     }
 
-    /// Ends a value that owns nothing, and returns its allocator.
+    /// Consumes a value that owns nothing, and returns the value's allocator.
     pub fn end(self) -> Global
         requires { is_some self.home ≡ false }
         ensures { result ≡ self.alloc }

@@ -1,4 +1,4 @@
-// The pointer in a recorder's handle. Its type names no other type.
+// The pointer in a recorder's handle. The pointer's type, `*mut u8`, names no other type.
 ghost use Rattle.std.specs.Prelude.{◌≡◌, Option, Some, None, is_some, false, true};
 ghost use Rattle.room_c.specs.declared.tape.Tape.{Tape};
 ghost use Rattle.room_c.specs.Owned.{tape_coded, tape_owned};
@@ -8,8 +8,8 @@ use crate::tape::Tape;
 use std::alloc::Global;
 use std::marker::Model;
 
-/// The pointer of a `Box<Tape>`, or a pointer that owns nothing. A type that contains or names a `Box` can't cross to C. So the pointer is a
-/// plain `*mut u8`, and the ghost field `tape` says what it owns. The type is linear: a value that owns a recorder can only be turned into its box.
+/// The pointer of a `Box<Tape>`, or a pointer that owns nothing. A type that contains or names a `Box` can't be passed to C. So the pointer is `*mut u8`, and
+/// the ghost field `tape` says what the pointer owns. The type is linear: a value that owns a recorder can only be converted to its box.
 #[repr(C)]
 pub struct HeldRecorder {
     at: *mut u8,
@@ -21,11 +21,11 @@ impl Model for HeldRecorder {
     ghost also_owns = { λ h. tape_owned h.alloc h.at h.tape };
 }
 
-// The pointer may move to another thread, as its box may.
+// The pointer may move to another thread, because the box may.
 unsafe impl Send for HeldRecorder {}
 
 impl HeldRecorder {
-    /// A value that owns the box with these parts.
+    /// Returns a value that owns the box with these parts.
     pub fn of_parts(parts: Parts<Tape, Global>) -> HeldRecorder
         ensures { result.tape ≡ Some parts.value }
     {
@@ -36,7 +36,7 @@ impl HeldRecorder {
         }
     }
 
-    /// The parts of the box that this value owns.
+    /// Returns the parts of the box that this value owns.
     pub fn into_parts(self) -> Parts<Tape, Global>
         requires { is_some self.tape ≡ true }
         ensures { Some result.value ≡ self.tape }
@@ -48,7 +48,7 @@ impl HeldRecorder {
         }
     }
 
-    /// A value that owns nothing: the pointer is null.
+    /// Returns a value that owns nothing. Its pointer is null.
     pub fn nothing(alloc: Global) -> HeldRecorder
         ensures { result.tape ≡ None }
     {
@@ -58,7 +58,7 @@ impl HeldRecorder {
         }
     }
 
-    /// Ends a value that owns nothing, and returns its allocator.
+    /// Consumes a value that owns nothing, and returns the value's allocator.
     pub fn end(self) -> Global
         requires { is_some self.tape ≡ false }
         ensures { result ≡ self.alloc }

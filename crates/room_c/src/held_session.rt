@@ -1,4 +1,4 @@
-// The pointer in a session's handle. Its type names no other type.
+// The pointer in a session's handle. The pointer's type, `*mut u8`, names no other type.
 ghost use Rattle.std.specs.Prelude.{◌≡◌, Option, Some, None, is_some, false, true};
 ghost use Rattle.room_c.specs.declared.attended.Attended.{Attended};
 ghost use Rattle.room_c.specs.Owned.{attended_coded, attended_owned};
@@ -8,8 +8,8 @@ use crate::parts::Parts;
 use std::alloc::Global;
 use std::marker::Model;
 
-/// The pointer of a `Box<Attended>`, or a pointer that owns nothing. A type that contains or names a `Box` can't cross to C. So the pointer is a
-/// plain `*mut u8`, and the ghost field `attended` says what it owns. The type is linear: a value that owns a session can only be turned into its box.
+/// The pointer of a `Box<Attended>`, or a pointer that owns nothing. A type that contains or names a `Box` can't be passed to C. So the pointer is `*mut u8`,
+/// and the ghost field `attended` says what the pointer owns. The type is linear: a value that owns a session can only be converted to its box.
 #[repr(C)]
 pub struct HeldSession {
     at: *mut u8,
@@ -21,11 +21,11 @@ impl Model for HeldSession {
     ghost also_owns = { λ h. attended_owned h.alloc h.at h.attended };
 }
 
-// The pointer may move to another thread, as its box may.
+// The pointer may move to another thread, because the box may.
 unsafe impl Send for HeldSession {}
 
 impl HeldSession {
-    /// A value that owns the box with these parts.
+    /// Returns a value that owns the box with these parts.
     pub fn of_parts(parts: Parts<Attended, Global>) -> HeldSession
         ensures { result.attended ≡ Some parts.value }
     {
@@ -36,7 +36,7 @@ impl HeldSession {
         }
     }
 
-    /// The parts of the box that this value owns.
+    /// Returns the parts of the box that this value owns.
     pub fn into_parts(self) -> Parts<Attended, Global>
         requires { is_some self.attended ≡ true }
         ensures { Some result.value ≡ self.attended }
@@ -48,7 +48,7 @@ impl HeldSession {
         }
     }
 
-    /// A value that owns nothing: the pointer is null.
+    /// Returns a value that owns nothing. Its pointer is null.
     pub fn nothing(alloc: Global) -> HeldSession
         ensures { result.attended ≡ None }
     {
@@ -58,7 +58,7 @@ impl HeldSession {
         }
     }
 
-    /// Ends a value that owns nothing, and returns its allocator.
+    /// Consumes a value that owns nothing, and returns the value's allocator.
     pub fn end(self) -> Global
         requires { is_some self.attended ≡ false }
         ensures { result ≡ self.alloc }

@@ -1,6 +1,6 @@
-//! The room for callers in C. C keeps a handle for each room, for each session of a publisher or a subscriber, and for each recorder. A room may have
-//! bundles. Sessions make calls on a room; a recorder makes a file of packets. Whatever numbers C passes, each call is served or returns a code. The
-//! header is `libzoftemar/zoftemar.h`.
+//! The room's interface for callers in C. C stores one handle for each room, for each session of a publisher or a subscriber, and for each recorder. A room
+//! may have bundles. A session makes calls on a room. A recorder turns packets into a file. Each call is served or returns a code, whatever numbers C passes.
+//! The header is `libzoftemar/zoftemar.h`.
 #![tactic(auto)]
 
 mod answers;

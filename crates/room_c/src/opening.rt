@@ -1,4 +1,4 @@
-// Opening and closing a room.
+// Opens and closes rooms.
 ghost use Rattle.std.specs.Prelude.{◌≡◌, ◌≢◌, [], IfSome, IsSome, None};
 ghost use Rattle.simulcast.specs.Bundles.{StandsFor, nothing_made};
 ghost use Rattle.room_c.specs.declared.code.Code.TheVariants.{Done, HasRoom, NoMemory};
@@ -10,8 +10,8 @@ use crate::handle::Handle;
 use crate::home::Home;
 use std::alloc::Global;
 
-/// Opens a room behind a handle that has none. Returns `Done`. `HasRoom`: the handle already has a room; nothing changes. `NoMemory`: the handle
-/// still has no room.
+/// Opens a room behind a handle that has no room. Returns `Done`. `HasRoom`: the handle already has a room; nothing changes. `NoMemory`: the handle still has
+/// no room.
 #[unsafe(no_mangle)]
 pub extern "C" fn zoftemar_open(alloc: Global, room: &mut Handle) -> u32
     ensures opened { result ≡ code_number Done → IfSome room.new.held.home (λ home. StandsFor untold home.bundles (nothing_made [])) × IsSome room.new.held.home }
@@ -34,7 +34,7 @@ pub extern "C" fn zoftemar_open(alloc: Global, room: &mut Handle) -> u32
     }
 }
 
-/// Closes a room, with all its tracks, subscribers and bundles. The handle then has no room, and a room may be opened behind it again.
+/// Closes a room, with all its tracks, subscribers and bundles. Afterwards the handle has no room, and another room may be opened behind the handle.
 #[unsafe(no_mangle)]
 pub extern "C" fn zoftemar_close(alloc: Global, room: &mut Handle)
     ensures { room.new.held.home ≡ None }

@@ -1,62 +1,62 @@
-// What is counted of a subscriber and of a track, in the form that C reads.
+// The counts of a subscriber and of a track, in the form that C reads.
 ghost use Rattle.std.specs.Prelude.{◌≡◌};
 ghost use Rattle.room_c.specs.Reading.{subscriber_counts_of, track_counts_of};
 ghost use Rattle.room_c.specs.Telling.{plain_subscriber_counts, plain_track_counts};
 
 use room_core::{SubscriberCounts, TrackCounts};
 
-/// What is counted of a subscriber since its join (see `SubscriberCounts` of `room_core`). A count stays at 2^64 - 1 once it is there.
+/// The counts of a subscriber since its join (see `SubscriberCounts` of `room_core`). A count that has reached 2^64 - 1 doesn't change any more.
 #[repr(C)]
 #[derive(Clone, Copy, Debug)]
 pub struct PlainSubscriberCounts {
     /// The frames that were forwarded.
     pub passed: u64,
-    /// The frames that were withheld because they aren't of the target.
+    /// The frames that were withheld because they aren't present in the decode target.
     pub not_of_target: u64,
-    /// The frames that were withheld because they refer behind the epoch.
+    /// The frames that were withheld because they refer to a frame before the epoch.
     pub behind: u64,
     /// The frames that were withheld because they refer to a frame that wasn't forwarded.
     pub reference: u64,
     /// The frames that were withheld because the queue was too full.
     pub full: u64,
-    /// The frames that were withheld because the target's chain was broken.
+    /// The frames that were withheld because the chain of the decode target was broken.
     pub link: u64,
-    /// The frames that were withheld because no target was open.
+    /// The frames that were withheld because no decode target was open.
     pub unopened: u64,
-    /// The packets that were queued, those taken since included.
+    /// The packets that were queued, including those that were taken later.
     pub queued: u64,
     /// The packets that were taken.
     pub taken: u64,
-    /// The packets that were returned once more.
+    /// The packets that were resent.
     pub resent: u64,
     /// On a plain track, the packets that weren't queued because 512 were queued already.
     pub left_out: u64,
-    /// The packets that are queued now: at most 512.
+    /// The packets that are queued now. The maximum is 512.
     pub waiting: u64,
-    /// For later counts: 0.
+    /// Reserved for later counts. The items are 0.
     pub spare: [u64; 4],
 }
 
-/// What is counted of a track since its publish (see `TrackCounts` of `track_core`).
+/// The counts of a track since its publish (see `TrackCounts` of `track_core`).
 #[repr(C)]
 #[derive(Clone, Copy, Debug)]
 pub struct PlainTrackCounts {
     /// The packets that came in order.
     pub arrived: u64,
-    /// The sequence numbers that were given up.
+    /// The missing sequence numbers that the track gave up.
     pub given_up: u64,
-    /// The whole frames. A plain track has none.
+    /// The complete frames. A plain track has no frames.
     pub frames: u64,
-    /// The whole key frames.
+    /// The complete key frames.
     pub key_frames: u64,
-    /// The packets of `arrived` that are in no whole frame; 0 on a plain track.
+    /// The packets of `arrived` that belong to no complete frame. On a plain track, this count is 0.
     pub unframed: u64,
-    /// For later counts: 0.
+    /// Reserved for later counts. The items are 0.
     pub spare: [u64; 3],
 }
 
 impl PlainSubscriberCounts {
-    /// The same counts. Different counts have different numbers.
+    /// Returns the same counts in the form that C reads. Different counts have different results.
     pub fn of(counts: &SubscriberCounts) -> PlainSubscriberCounts
         ensures told { subscriber_counts_of result ≡ counts.now }
         ensures exact { result ≡ plain_subscriber_counts counts.now }
@@ -80,7 +80,7 @@ impl PlainSubscriberCounts {
 }
 
 impl PlainTrackCounts {
-    /// The same counts. Different counts have different numbers.
+    /// Returns the same counts in the form that C reads. Different counts have different results.
     pub fn of(counts: &TrackCounts) -> PlainTrackCounts
         ensures told { track_counts_of result ≡ counts.now }
         ensures exact { result ≡ plain_track_counts counts.now }

@@ -9,8 +9,8 @@ use crate::code::Code;
 use sfu_base::{Refusal, Reply, RtpFault, Scratch, Verdict};
 use simulcast::{BundleFault, Pumped};
 
-/// A reply as numbers: its code, a flag, and two numbers. [`Code`] gives their meaning for each code. A number without a meaning is 0. The flag is a
-/// yes or no, or says whether an optional number is present.
+/// A reply as numbers: a code, a flag and two numbers. For each code, [`Code`] says what the flag and the numbers mean. A number without a meaning is 0. The
+/// flag either answers a yes-or-no question, or says whether an optional number is present.
 #[repr(C)]
 #[derive(Clone, Copy, Debug)]
 pub struct PlainReply {
@@ -21,7 +21,7 @@ pub struct PlainReply {
 }
 
 impl PlainReply {
-    /// The code alone; the flag is false and the numbers are 0.
+    /// Returns a reply with this code. The flag is false, and both numbers are 0.
     pub fn bare(code: Code) -> PlainReply
         ensures { result ≡ bare_of code }
     {
@@ -33,7 +33,7 @@ impl PlainReply {
         }
     }
 
-    /// A code with a flag; the numbers are 0.
+    /// Returns a reply with this code and this flag. Both numbers are 0.
     pub fn telling(code: Code, has: bool) -> PlainReply
         ensures { result ≡ flag_of code has }
     {
@@ -45,7 +45,7 @@ impl PlainReply {
         }
     }
 
-    /// A code with one number.
+    /// Returns a reply with this code and one number. The flag is true, and the second number is 0.
     pub fn with(code: Code, first: u64) -> PlainReply
         ensures { result ≡ one_of code first }
     {
@@ -57,7 +57,7 @@ impl PlainReply {
         }
     }
 
-    /// A code with two numbers.
+    /// Returns a reply with this code and two numbers. The flag is true.
     pub fn with_two(code: Code, first: u64, second: u64) -> PlainReply
         ensures { result ≡ two_of code first second }
     {
@@ -69,7 +69,7 @@ impl PlainReply {
         }
     }
 
-    /// A reply as numbers. If the reply has bytes or sequence numbers in the scratch, `first` is how many.
+    /// Returns a reply as numbers. If the reply has bytes or sequence numbers in the scratch, `first` is their count.
     #[tactic(auto, unfolding(crate::specs::Telling::plain_of))]
     pub fn of(reply: &Reply, scratch: &Scratch) -> PlainReply
         ensures told { reply_in result ≡ reply.now }
@@ -86,15 +86,21 @@ impl PlainReply {
         }
     }
 
-    /// The numbers of a reply to a call that no bundle forbids.
+    /// Returns the reply to a call that no bundle forbids, as numbers.
+    #[inline(always)]
+    #[tactic(auto, unfolding(crate::specs::Telling::plain_of))]
     pub fn of_reply(reply: &Reply, scratch: &Scratch) -> PlainReply
         ensures told { answer_in result ≡ Ok reply.now }
         ensures exact { result ≡ answer_reply scratch.now (Ok reply.now) }
     {
-        PlainReply::of(reply, scratch)
+        match reply {
+            // Most of these replies are `Done`.
+            Reply::Done => PlainReply::bare(Code::Done),
+            _ => PlainReply::of(reply, scratch),
+        }
     }
 
-    /// The room's answer to a call as numbers.
+    /// Returns the answer of a room with bundles, as numbers.
     pub fn of_answer(answer: Result<Reply, BundleFault>, scratch: &Scratch) -> PlainReply
         requires { IfErr answer IsBound }
         ensures told { answer_in result ≡ answer }
@@ -106,7 +112,7 @@ impl PlainReply {
         }
     }
 
-    /// What a new bundle or a choice returned, as numbers.
+    /// Returns the result of creating a bundle or choosing a leg, as numbers.
     pub fn of_done(answer: Result<(), BundleFault>) -> PlainReply
         ensures { result ≡ done_reply answer }
     {
@@ -116,7 +122,7 @@ impl PlainReply {
         }
     }
 
-    /// What a pump returned, as numbers.
+    /// Returns the result of a pump, as numbers.
     pub fn of_pumped(answer: Result<Pumped, BundleFault>) -> PlainReply
         ensures { result ≡ pumped_reply answer }
     {
@@ -130,7 +136,7 @@ impl PlainReply {
         }
     }
 
-    /// Why a room with bundles refused, as numbers.
+    /// Returns the refusal of a room with bundles, as numbers.
     pub fn of_fault(why: BundleFault) -> PlainReply
         ensures told { IsBound why → answer_in result ≡ Err why }
         ensures code { 32 ≤ result.code }
@@ -151,7 +157,7 @@ impl PlainReply {
         }
     }
 
-    /// A refusal as numbers.
+    /// Returns the refusal of a room, as numbers.
     pub fn of_refusal(why: Refusal) -> PlainReply
         ensures told { reply_in result ≡ reply.Refused why }
         ensures refusal { refusal_in result ≡ why }
@@ -195,7 +201,7 @@ impl PlainReply {
     }
 }
 
-// A verdict on a frame as numbers.
+// Returns a verdict on a frame, as numbers.
 fn of_verdict(verdict: Verdict) -> PlainReply
     ensures told { reply_in result ≡ reply.Cause verdict }
     ensures code { result.code < 32 }

@@ -6,7 +6,7 @@ ghost use Rattle.room_c.specs.Telling.{plain_target};
 use room_core::DecodeTarget;
 use sfu_base::Wish;
 
-/// A decode target as numbers: its index and, if they are known, its greatest spatial and temporal layers.
+/// A decode target as numbers: its index and, if the layers are known, its highest spatial layer and its highest temporal layer.
 #[repr(C)]
 #[derive(Clone, Copy, Debug)]
 pub struct PlainTarget {
@@ -14,16 +14,16 @@ pub struct PlainTarget {
     pub index: u8,
     /// Whether the layers are known.
     pub known: bool,
-    /// The greatest spatial layer, 0 to 3. 0 if the layers aren't known.
+    /// The highest spatial layer, 0 to 3. If the layers aren't known, it is 0.
     pub spatial: u8,
-    /// The greatest temporal layer, 0 to 7. 0 if the layers aren't known.
+    /// The highest temporal layer, 0 to 7. If the layers aren't known, it is 0.
     pub temporal: u8,
-    /// For later use: 0.
+    /// Reserved for later use. The bytes are 0.
     pub spare: [u8; 4],
 }
 
 impl PlainTarget {
-    /// The numbers of a decode target. Different targets have different numbers.
+    /// Returns a decode target as numbers. Different decode targets have different results.
     pub fn of(target: &DecodeTarget) -> PlainTarget
         ensures index { result.index ≡ target.now.index }
         ensures layers { layers_in result ≡ target.now.layers }

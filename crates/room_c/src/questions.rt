@@ -1,5 +1,6 @@
-// Questions about a subscriber or a track. A question isn't a call: it reads the handle and the room, and writes to neither, so in C the handle is const.
-// It is `&mut` here since an export can't read through a `&` to what owns memory. `NoRoom`: the handle has no room.
+// Questions about a subscriber or a track. A question isn't a call: it reads the handle and the room, and doesn't write to either. So the handle is const in
+// C. Here the handle is `&mut`, since an exported function can't read through a `&` to a value that owns memory. A question returns `NoRoom` if the handle
+// has no room.
 ghost use Rattle.std.specs.Prelude.{◌≡◌, ◌<◌};
 ghost use Rattle.room_c.specs.Codes.{code_number};
 ghost use Rattle.room_c.specs.Reading.{number_in, reached_in, target_in};
@@ -13,8 +14,8 @@ use crate::plain_target::PlainTarget;
 use room_core::DecodeTarget;
 use sfu_base::Refusal;
 
-/// Writes to `out` the decode target that a subscriber is sent, if there is one (see `Room::target_of`). Returns `Target`; `has` says whether there
-/// is one. If not, or on a refusal, `out` is unchanged. Refusal: `NoSubscriber`.
+/// If a decode target is sent to the subscriber, writes this decode target to `out` (see `Room::target_of`). Returns `Target`. `has` says whether there is
+/// such a decode target. If there is none, or after a refusal, `out` is unchanged. Refusal: `NoSubscriber`.
 #[unsafe(no_mangle)]
 pub extern "C" fn zoftemar_target_of(
     room: &mut Handle,
@@ -30,8 +31,8 @@ pub extern "C" fn zoftemar_target_of(
     tell_target(room.held.home().bundles.room().target_of(subscriber), out)
 }
 
-/// Returns `Reached`. `has` is the result of `Room::reaches_wish`: whether a subscriber is sent the best decode target that its wish allows. Refusal:
-/// `NoSubscriber`.
+/// Returns `Reached`. `has` is the result of `Room::reaches_wish`: whether the best decode target that the subscriber's wish allows is sent to the
+/// subscriber. Refusal: `NoSubscriber`.
 #[unsafe(no_mangle)]
 pub extern "C" fn zoftemar_reaches_wish(room: &mut Handle, subscriber: u32) -> PlainReply
     ensures asks { AsksReached room.old.held.home subscriber result }
@@ -43,7 +44,7 @@ pub extern "C" fn zoftemar_reaches_wish(room: &mut Handle, subscriber: u32) -> P
     tell_reached(room.held.home().bundles.room().reaches_wish(subscriber))
 }
 
-/// Returns `Due`. `first` is the result of `Room::due`: the moment at which a tick of a track gives up a gap. If there is none, `has` is false.
+/// Returns `Due`. `first` is the result of `Room::due`: the moment at which a tick of the track gives up a gap. If there is no such moment, `has` is false.
 /// Refusal: `NoTrack`.
 #[unsafe(no_mangle)]
 pub extern "C" fn zoftemar_due(room: &mut Handle, track: u32) -> PlainReply
@@ -56,8 +57,8 @@ pub extern "C" fn zoftemar_due(room: &mut Handle, track: u32) -> PlainReply
     tell_number(Code::Due, room.held.home().bundles.room().due(track))
 }
 
-/// Returns `Newest`. `first` is the result of `Room::newest_frame`: the number of a track's newest whole frame. If there is none, `has` is false.
-/// Refusal: `NoTrack`.
+/// Returns `Newest`. `first` is the result of `Room::newest_frame`: the number of the track's newest complete frame. If there is no complete frame, `has` is
+/// false. Refusal: `NoTrack`.
 #[unsafe(no_mangle)]
 pub extern "C" fn zoftemar_newest_frame(room: &mut Handle, track: u32) -> PlainReply
     ensures asks { AsksNewest room.old.held.home track result }

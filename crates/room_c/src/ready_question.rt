@@ -1,4 +1,5 @@
-// The question which of a track's subscribers have packets queued. As the other questions, it reads the handle and the room, and writes to neither.
+// A question about a track: which of its subscribers have queued packets? Like the other questions, it reads the handle and the room, and doesn't write to
+// either.
 ghost use Rattle.std.specs.Prelude.{◌≡◌, ◌≤◌, drop, length, take};
 ghost use Rattle.room_c.specs.ReadySubscribers.{AsksReady};
 
@@ -6,9 +7,9 @@ use crate::code::Code;
 use crate::handle::Handle;
 use crate::plain_reply::PlainReply;
 
-/// Writes to the start of `out` the numbers of the track's subscribers that have packets queued, each once, in no particular order, as many as fit (see
-/// `Room::ready`). Returns `Ready`. `first`: how many were written. If that is fewer than `out` has places for, these are all. `NoRoom`: the handle has no
-/// room.
+/// Writes the numbers of the track's subscribers that have queued packets to the start of `out`, as many as fit (see `Room::ready`). Each number is written
+/// once, and the order isn't specified. Returns `Ready`. `first` is how many numbers were written. If `first` is less than the length of `out`, no such
+/// subscriber is left out. `NoRoom`: the handle has no room.
 #[unsafe(no_mangle)]
 pub extern "C" fn zoftemar_ready(room: &mut Handle, track: u32, out: &mut [u32]) -> PlainReply
     ensures asks { AsksReady room.old.held.home track (length out.old) result (take result.first out.new) }

@@ -1,4 +1,4 @@
-// Recording packets as an IVF file.
+// Records packets as an IVF file.
 ghost use Rattle.std.specs.Prelude.{◌≡◌, ◌<◌, ◌≤◌, None, drop, length};
 ghost use Rattle.room_c.specs.declared.code.Code.TheVariants.{BadExtensionId, NoSpace, TooLong};
 ghost use Rattle.room_c.specs.Codes.{code_number};
@@ -13,8 +13,8 @@ use crate::tape::Tape;
 use ivf_recorder::IvfRecorder;
 use std::alloc::Global;
 
-/// Opens a recorder behind a handle that has none, as `IvfRecorder::new` does. Returns `Done`. The dependency descriptors of its packets are in the
-/// header extension element `id` (RFC 8285). `HasRecorder`: the handle already has a recorder; nothing changes. `NoMemory`: the handle still has no
+/// Opens a recorder behind a handle that has no recorder, as `IvfRecorder::new` does. Returns `Done`. The dependency descriptors of the recorded packets are
+/// in the header extension element `id` (RFC 8285). `HasRecorder`: the handle already has a recorder; nothing changes. `NoMemory`: the handle still has no
 /// recorder. `BadExtensionId`: `id` is 0; nothing changes.
 #[unsafe(no_mangle)]
 pub extern "C" fn zoftemar_recorder_open(
@@ -37,9 +37,10 @@ pub extern "C" fn zoftemar_recorder_open(
     }
 }
 
-/// Feeds the next packet to a recorder, as `IvfRecorder::feed` does. Returns `Done`. A fault of the packet is returned by every later call too, and the
-/// file has the frames before it: `Unread`, `OtherSource`, `OutOfSequence`, `NoStructure`, `NotWhole`, `MissingReference`, `NotObu`. With any other code
-/// nothing changes. `TooLong`: more than 2,048 bytes. `NoRecorder`: the handle has no recorder. `Finished`: the recorder is finished. `NoMemory`.
+/// Feeds the next packet to a recorder, as `IvfRecorder::feed` does. Returns `Done`. Faults of the packet: `Unread`, `OtherSource`, `OutOfSequence`,
+/// `NoStructure`, `NotWhole`, `MissingReference`, `NotObu`. Every later feed to this recorder returns the same fault, and the file has the frames before the
+/// fault. With any other code nothing changes. `TooLong`: the packet has more than 2,048 bytes. `NoRecorder`: the handle has no recorder. `Finished`: the
+/// recorder is finished. `NoMemory`.
 #[unsafe(no_mangle)]
 pub extern "C" fn zoftemar_recorder_feed(
     alloc: Global,
@@ -62,9 +63,9 @@ pub extern "C" fn zoftemar_recorder_feed(
     }
 }
 
-/// Finishes a recorder, and writes the next bytes of its file to the start of `out`, as many as there is capacity for. `FilePiece`: `first` bytes were
-/// written, and `second` are left. `Done`: all were written before. Takes no memory. `NoSpace`: `out` has no bytes; nothing changes. `NoRecorder`: the
-/// handle has no recorder.
+/// Finishes a recorder, and writes the next bytes of its file to the start of `out`, as many as fit into `out`. `FilePiece`: `first` bytes were written, and
+/// `second` bytes are left. `Done`: earlier calls wrote all bytes of the file. Allocates no memory. `NoSpace`: `out` has no bytes; nothing changes.
+/// `NoRecorder`: the handle has no recorder.
 #[unsafe(no_mangle)]
 pub extern "C" fn zoftemar_recorder_finish(
     alloc: Global,
@@ -88,7 +89,7 @@ pub extern "C" fn zoftemar_recorder_finish(
     }
 }
 
-/// Closes a recorder, finished or not. The handle then has no recorder, and a recorder may be opened behind it again.
+/// Closes a recorder, finished or not. Afterwards the handle has no recorder, and another recorder may be opened behind the handle.
 #[unsafe(no_mangle)]
 pub extern "C" fn zoftemar_recorder_close(alloc: Global, recorder: &mut RecorderHandle)
     ensures { recorder.new.held.tape ≡ None }
@@ -96,7 +97,7 @@ pub extern "C" fn zoftemar_recorder_close(alloc: Global, recorder: &mut Recorder
     drop(recorder.take(alloc));
 }
 
-// Opens a recorder behind a handle that has none.
+// Opens a recorder behind a handle that has no recorder.
 fn start(alloc: Global, recorder: &mut RecorderHandle, id: u8) -> u32
     requires { recorder.old.held.tape ≡ None }
     ensures { OpensRecorder id None recorder.new.held.tape result }

@@ -8,7 +8,7 @@ use crate::tape::Tape;
 use std::alloc::Global;
 use std::mem::replace;
 
-/// A handle that has a recorder or none. C keeps its 16 bytes, at first all 0, and may pass it from thread to thread.
+/// A handle that has a recorder or none. C stores the 16 bytes of the handle, which are all 0 at first. C may pass the handle from thread to thread.
 #[repr(C)]
 pub struct RecorderHandle {
     made: bool,
@@ -17,7 +17,7 @@ pub struct RecorderHandle {
 }
 
 impl RecorderHandle {
-    /// A handle that has no recorder.
+    /// Returns a handle that has no recorder.
     pub fn empty(alloc: Global) -> RecorderHandle
         ensures { result.held.tape ≡ None }
     {
@@ -27,7 +27,7 @@ impl RecorderHandle {
         }
     }
 
-    /// A handle that has this recorder.
+    /// Returns a handle that has this recorder.
     pub fn of(tape: Box<Tape>) -> RecorderHandle
         ensures { result.held.tape ≡ Some tape.value }
     {
@@ -37,7 +37,7 @@ impl RecorderHandle {
         }
     }
 
-    /// The handle's recorder, or `None` if it has none.
+    /// Returns the handle's recorder, or `None` if the handle has no recorder.
     pub fn into_tape(self) -> Option<Box<Tape>>
         ensures { self.held.tape ≡ option_map (λ tape. tape.value) result }
     {
@@ -50,7 +50,7 @@ impl RecorderHandle {
         }
     }
 
-    /// Takes the recorder out of the handle, which then has no recorder.
+    /// Removes the recorder from the handle and returns it, or returns `None` if the handle has no recorder. Afterwards the handle has no recorder.
     pub fn take(&mut self, alloc: Global) -> Option<Box<Tape>>
         ensures taken { self.old.held.tape ≡ option_map (λ tape. tape.value) result }
         ensures empty { self.new.held.tape ≡ None }
@@ -58,7 +58,7 @@ impl RecorderHandle {
         replace(self, RecorderHandle::empty(alloc)).into_tape()
     }
 
-    /// Puts a recorder into the handle. Drops the recorder that the handle had before, if any.
+    /// Puts this recorder into the handle. If the handle already had a recorder, drops the old one.
     pub fn put(&mut self, tape: Box<Tape>)
         ensures { self.new.held.tape ≡ Some tape.value }
     {

@@ -1,4 +1,4 @@
-// Retransmission packets without a session or a room (RFC 4588, section 4).
+// Wraps and unwraps retransmission packets, without a session or a room (RFC 4588, section 4).
 ghost use Rattle.std.specs.Prelude.{◌≡◌, IfSome, None, drop, length, take};
 ghost use Rattle.rtx_stream.specs.Retransmission.{IsOriginal, IsRetransmission};
 ghost use Rattle.room_c.specs.declared.code.Code.TheVariants.{Packet};
@@ -12,18 +12,19 @@ use rtp_packet::read;
 use rtx_stream::{Rtx, RtxFault, unwrap, wrap};
 use sfu_base::{PacketBuf, Refusal};
 
-/// The greatest length of a packet that can be wrapped, in bytes.
+/// The maximum length of a packet that can be wrapped, in bytes.
 const MOST_WRAPPED: usize = 2046;
 
-/// The number of the fault with `Unreadable` if a retransmission has no original sequence number (its payload has fewer than two bytes).
+/// The fault number of `Unreadable` for a retransmission without an original sequence number: the payload has fewer than two bytes.
 const NO_ORIGINAL: u64 = 5;
 
 /// Every payload type is below this number.
 const PAYLOAD_TYPES: u8 = 128;
 
-/// Wraps a packet for a retransmission stream, as `wrap` of `rtx_stream` does. On that stream it has the sequence number `number`. `Packet`: the
-/// wrapped packet is at the start of `out`. Else nothing is written, and the first code that applies is returned. `NoSpace`: `out` has fewer than
-/// 2,048 bytes. `TooLong`: the packet has more than 2,046 bytes. `BadStream`: the payload type is 128 or more. `Unreadable`: the packet isn't RTP.
+/// Wraps a packet for a retransmission stream, as `wrap` of `rtx_stream` does. The wrapped packet has the sequence number `number` on this stream. Returns
+/// `Packet`, and writes the wrapped packet to the start of `out`. Otherwise writes nothing, and returns the first of the following codes that applies.
+/// `NoSpace`: `out` has fewer than 2,048 bytes. `TooLong`: the packet has more than 2,046 bytes. `BadStream`: the payload type is 128 or more. `Unreadable`:
+/// the packet isn't RTP.
 #[unsafe(no_mangle)]
 pub extern "C" fn zoftemar_wrap(
     bytes: &[u8],
@@ -61,9 +62,9 @@ pub extern "C" fn zoftemar_wrap(
     }
 }
 
-/// Unwraps a retransmission packet, as `unwrap` of `rtx_stream` does. `Packet`: the original packet, with this SSRC and payload type, is at the
-/// start of `out`. Else nothing is written, and the first code that applies is returned. `NoSpace`: `out` has fewer than 2,048 bytes. `TooLong`:
-/// `bytes` has more than 2,048 bytes. `BadStream`: the payload type is 128 or more. `Unreadable`: `bytes` isn't RTP, or has no original sequence
+/// Unwraps a retransmission packet, as `unwrap` of `rtx_stream` does. Returns `Packet`, and writes the original packet, with this SSRC and payload type, to
+/// the start of `out`. Otherwise writes nothing, and returns the first of the following codes that applies. `NoSpace`: `out` has fewer than 2,048 bytes.
+/// `TooLong`: `bytes` has more than 2,048 bytes. `BadStream`: the payload type is 128 or more. `Unreadable`: `bytes` isn't RTP, or has no original sequence
 /// number.
 #[unsafe(no_mangle)]
 pub extern "C" fn zoftemar_unwrap(

@@ -1,4 +1,4 @@
-// Running a session: the datagrams it receives, the calls it makes, and the datagrams it sends.
+// Runs a session: passes received datagrams to the session, makes the session's calls, and returns the datagrams to send.
 ghost use Rattle.std.specs.Prelude.{◌≡◌, ◌<◌, ◌≤◌, None, Ok, Some, drop, length, take};
 ghost use Rattle.session_steps.specs.declared.session.Output.TheVariants as sends;
 ghost use Rattle.room_c.specs.declared.code.Code.TheVariants.{NoSpace, TooLong};
@@ -18,8 +18,8 @@ use sfu_base::PacketBuf;
 use simulcast::BundleFault;
 use std::alloc::Global;
 
-/// Begins a turn of a session with a datagram received at `moment`, in milliseconds, as `Session::received` does. Returns `Done`. With any other code
-/// nothing changes. `TooLong`: more than 2,048 bytes. `NoSession`: the handle has no session. `Busy`: the session still has a call to make.
+/// Begins a turn of a session with a datagram received at `moment`, in milliseconds, as `Session::received` does. Returns `Done`. With any other code nothing
+/// changes. `TooLong`: the datagram has more than 2,048 bytes. `NoSession`: the handle has no session. `Busy`: the session still has a call to make.
 #[unsafe(no_mangle)]
 pub extern "C" fn zoftemar_session_received(
     alloc: Global,
@@ -43,8 +43,8 @@ pub extern "C" fn zoftemar_session_received(
     }
 }
 
-/// Begins a turn of a session at `moment`, in milliseconds, if no datagram came. Returns `Done`. With any other code nothing changes. `NoSession`:
-/// the handle has no session. `Busy`: the session still has a call to make.
+/// Begins a turn of a session without a datagram, at `moment`, in milliseconds. Returns `Done`. With any other code nothing changes. `NoSession`: the handle
+/// has no session. `Busy`: the session still has a call to make.
 #[unsafe(no_mangle)]
 pub extern "C" fn zoftemar_session_waited(
     alloc: Global,
@@ -63,10 +63,10 @@ pub extern "C" fn zoftemar_session_waited(
     }
 }
 
-/// Makes a session's calls on a room, up to the next datagram to send. `Packet`: that datagram is at the start of `out`. `Done`: no call is left, and
-/// the session waits for the next datagram. `Bound`: the session's next call is a take from a leg of bundle `first`, and stays to be made; the calls before
-/// it were made. With any other code nothing changes. `NoSpace`: `out` has fewer than 2,048 bytes. `NoSession`: the handle has no session. `NoRoom`: the
-/// handle has no room.
+/// Makes a session's calls on a room, until the session has a datagram to send or no call is left. `Packet`: the datagram to send is at the start of `out`.
+/// `Done`: no call is left, and the session waits for the next datagram. `Bound`: the session's next call is a take from a leg of bundle `first`. This call
+/// hasn't been made, but the calls before it have. With any other code nothing changes. `NoSpace`: `out` has fewer than 2,048 bytes. `NoSession`: the handle
+/// has no session. `NoRoom`: the handle has no room.
 #[unsafe(no_mangle)]
 pub extern "C" fn zoftemar_session_work(
     alloc: Global,
@@ -93,7 +93,7 @@ pub extern "C" fn zoftemar_session_work(
     }
 }
 
-// As `zoftemar_session_work`, for a session that exists and a buffer of at least 2,048 bytes.
+// Does the same as `zoftemar_session_work`, for an existing session and a buffer of at least 2,048 bytes.
 fn work_on(
     alloc: Global,
     room: &mut Handle,
@@ -116,7 +116,8 @@ fn work_on(
     }
 }
 
-// Writes an output's packet, if any, to the start of `out` (2,048 bytes or more). Returns the output, or why work stopped, as a reply.
+// If the output is a packet, writes the packet to the start of `out`, which must have at least 2,048 bytes. Returns the output, or the fault that stopped the
+// work, as a reply.
 fn give_output(
     output: Result<Output, BundleFault>,
     packet: &PacketBuf,

@@ -8,7 +8,7 @@ use crate::parts::Parts;
 use std::alloc::Global;
 use std::mem::replace;
 
-/// A handle that has a session or none. C keeps its 16 bytes, at first all 0, and may pass it from thread to thread.
+/// A handle that has a session or none. C stores the 16 bytes of the handle, which are all 0 at first. C may pass the handle from thread to thread.
 #[repr(C)]
 pub struct SessionHandle {
     made: bool,
@@ -17,7 +17,7 @@ pub struct SessionHandle {
 }
 
 impl SessionHandle {
-    /// A handle that has no session.
+    /// Returns a handle that has no session.
     pub fn empty(alloc: Global) -> SessionHandle
         ensures { result.held.attended ≡ None }
     {
@@ -27,7 +27,7 @@ impl SessionHandle {
         }
     }
 
-    /// A handle that has this session.
+    /// Returns a handle that has this session.
     pub fn of(attended: Box<Attended>) -> SessionHandle
         ensures { result.held.attended ≡ Some attended.value }
     {
@@ -37,7 +37,7 @@ impl SessionHandle {
         }
     }
 
-    /// The handle's session, or `None` if it has none.
+    /// Returns the handle's session, or `None` if the handle has no session.
     pub fn into_attended(self) -> Option<Box<Attended>>
         ensures { self.held.attended ≡ option_map (λ attended. attended.value) result }
     {
@@ -50,7 +50,7 @@ impl SessionHandle {
         }
     }
 
-    /// Takes the session out of the handle, which then has no session.
+    /// Removes the session from the handle and returns it, or returns `None` if the handle has no session. Afterwards the handle has no session.
     pub fn take(&mut self, alloc: Global) -> Option<Box<Attended>>
         ensures taken { self.old.held.attended ≡ option_map (λ attended. attended.value) result }
         ensures empty { self.new.held.attended ≡ None }
@@ -58,7 +58,7 @@ impl SessionHandle {
         replace(self, SessionHandle::empty(alloc)).into_attended()
     }
 
-    /// Puts a session into the handle. Drops the session that the handle had before, if any.
+    /// Puts this session into the handle. If the handle already had a session, drops the old one.
     pub fn put(&mut self, attended: Box<Attended>)
         ensures { self.new.held.attended ≡ Some attended.value }
     {

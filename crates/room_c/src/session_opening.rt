@@ -1,4 +1,4 @@
-// Opening and closing a session.
+// Opens and closes sessions.
 ghost use Rattle.std.specs.Prelude.{◌≡◌, ◌≢◌, ◌<◌, ◌≤◌, ◌⊎◌, ℕ, None};
 ghost use Rattle.session_steps.specs.Sessions.{Doing, publisher_deed, outgoing_deed};
 ghost use Rattle.room_sessions.specs.Either.{either_left};
@@ -15,7 +15,7 @@ use rtx_stream::Rtx;
 use session_steps::{PublisherSession, SubscriberSession};
 use std::alloc::Global;
 
-/// Opens a session of a track's publisher behind a handle that has none, as `PublisherSession::new` does. Returns `Done`. `ssrc` is the SSRC of the
+/// Opens a session of a track's publisher behind a handle that has no session, as `PublisherSession::new` does. Returns `Done`. `ssrc` is the SSRC of the
 /// publisher's packets. `HasSession`: the handle already has a session; nothing changes. `NoMemory`: the handle still has no session.
 #[unsafe(no_mangle)]
 pub extern "C" fn zoftemar_open_publisher(
@@ -33,8 +33,8 @@ pub extern "C" fn zoftemar_open_publisher(
     )
 }
 
-/// Opens a session of a subscriber. Each retransmission in it has the bytes of the packet first sent. `ssrc` is the SSRC of the media sent to the
-/// subscriber. The codes are those of `zoftemar_open_publisher`.
+/// Opens a session of a subscriber. Each retransmission in this session has the same bytes as the packet that was sent first. `ssrc` is the SSRC of the media
+/// sent to the subscriber. The codes are those of `zoftemar_open_publisher`.
 #[unsafe(no_mangle)]
 pub extern "C" fn zoftemar_open_subscriber(
     alloc: Global,
@@ -51,8 +51,8 @@ pub extern "C" fn zoftemar_open_subscriber(
     )
 }
 
-/// Opens a session of a subscriber, as `zoftemar_open_subscriber` does, but sends retransmissions in a separate stream (RFC 4588), numbered from 0.
-/// `BadStream`: the stream's payload type is 128 or more, or its SSRC is that of the media; nothing changes.
+/// Opens a session of a subscriber, as `zoftemar_open_subscriber` does, but sends retransmissions on a separate stream (RFC 4588). The sequence numbers of
+/// this stream start at 0. `BadStream`: the stream's payload type is 128 or more, or the stream's SSRC is `ssrc`; nothing changes.
 #[unsafe(no_mangle)]
 pub extern "C" fn zoftemar_open_rtx_subscriber(
     alloc: Global,
@@ -83,7 +83,7 @@ pub extern "C" fn zoftemar_open_rtx_subscriber(
     )
 }
 
-/// Closes a session. The handle then has no session, and a session may be opened behind it again.
+/// Closes a session. Afterwards the handle has no session, and another session may be opened behind the handle.
 #[unsafe(no_mangle)]
 pub extern "C" fn zoftemar_close_session(alloc: Global, session: &mut SessionHandle)
     ensures { session.new.held.attended ≡ None }

@@ -1,21 +1,22 @@
-// Calls on a subscriber. `seat` names the caller for the room's recorder; this room's recorder ignores it. A call
-// returns `Done` if its comment names no other code. If the handle has no room: `NoRoom`, unless `NoSpace` applies.
+// Calls on a subscriber. `seat` names the caller for the room's recorder; this room's recorder ignores it. An accepted call returns `Done`, unless its
+// comment names another code. If the handle has no room, a call returns `NoRoom`, unless `NoSpace` applies.
 ghost use Rattle.std.specs.Prelude.{◌≡◌, ◌<◌, ◌≤◌, drop, length};
 ghost use Rattle.sfu_base.specs.declared.call.Call.TheVariants as call;
 ghost use Rattle.room_c.specs.declared.code.Code.TheVariants.{NoSpace};
 ghost use Rattle.room_c.specs.Serving.{Does, GivesBytes};
 ghost use Rattle.room_c.specs.Telling.{bare_of, bytes_written};
 
-use crate::answers::{PACKET_ROOM, give_answer};
+use crate::answers::{PACKET_ROOM, give_answer, give_bytes};
 use crate::code::Code;
 use crate::handle::Handle;
 use crate::home::Home;
 use crate::plain_reply::PlainReply;
 use sfu_base::{Call, Wish};
+use simulcast::BundleFault;
 use std::alloc::Global;
 
-/// Makes a subscriber join a track, as `Room::join` does. The packets sent to the subscriber have this SSRC and sequence numbers from
-/// `first` on. `spatial` and `temporal` are the wish. Refusals: `NoTrack`, `NumberUsed`, `TooMany`, `NoMemory`.
+/// Makes a subscriber join a track, as `Room::join` does. The packets sent to the subscriber have this SSRC, and their sequence numbers start at `first`.
+/// `spatial` and `temporal` are the subscriber's wish. Refusals: `NoTrack`, `NumberUsed`, `TooMany`, `NoMemory`.
 #[unsafe(no_mangle)]
 pub extern "C" fn zoftemar_join(
     alloc: Global,
@@ -74,7 +75,7 @@ pub extern "C" fn zoftemar_aim(
     room.serve(alloc, seat, &Call::Aim { subscriber, wish })
 }
 
-/// Takes the oldest packet queued for a subscriber, as `Room::take` does, and writes it to the start of `out`. Returns `Packet`. Refusals:
+/// Takes the oldest packet queued for a subscriber, as `Room::take` does, and writes the packet to the start of `out`. Returns `Packet`. Refusals:
 /// `NoSubscriber`, `Empty`, `Bound`. `NoSpace`: `out` has fewer than 2,048 bytes; nothing changes.
 #[unsafe(no_mangle)]
 pub extern "C" fn zoftemar_take(
@@ -92,24 +93,26 @@ pub extern "C" fn zoftemar_take(
     if out.len() < PACKET_ROOM {
         return PlainReply::bare(Code::NoSpace);
     }
-    match room.take(alloc) {
-        None => PlainReply::bare(Code::NoRoom),
-        Some(mut home) => {
-            let Home {
-                bundles,
-                scratch,
-                inbox: _,
-            } = &mut *home;
-            let answer = bundles.take(seat, subscriber, scratch);
-            let told = give_answer(answer, scratch, out);
-            room.put(home);
-            told
-        }
+    let Some(mut home) = room.take(alloc) else {
+        return PlainReply::bare(Code::NoRoom);
+    };
+    if let Some(bundle) = home.bundles.owner(subscriber) {
+        room.put(home);
+        return PlainReply::of_fault(BundleFault::Bound { bundle });
     }
+    let Home {
+        bundles,
+        scratch,
+        inbox: _,
+    } = &mut *home;
+    let reply = bundles.take(seat, subscriber, scratch);
+    let told = give_bytes(&reply, scratch, out);
+    room.put(home);
+    told
 }
 
-/// Writes a packet that was taken before, with this sequence number, to the start of `out`, as `Room::resend` does for a NACK (RFC 4585, section
-/// 6.2.1). Returns `Packet`. Refusals: `NoSubscriber`, `NotKept`. `NoSpace`: `out` has fewer than 2,048 bytes; nothing changes.
+/// Writes a packet that was taken before to the start of `out`, as `Room::resend` does for a NACK (RFC 4585, section 6.2.1). `seq` is the packet's sequence
+/// number. Returns `Packet`. Refusals: `NoSubscriber`, `NotKept`. `NoSpace`: `out` has fewer than 2,048 bytes; nothing changes.
 #[unsafe(no_mangle)]
 pub extern "C" fn zoftemar_resend(
     alloc: Global,
@@ -157,8 +160,8 @@ pub extern "C" fn zoftemar_plead(
     room.serve(alloc, seat, &Call::Plead { subscriber })
 }
 
-/// Returns why a frame was or wasn't forwarded to a subscriber, as `Room::why` does: a code from 16 to 23. `number` is the unwrapped frame number.
-/// Refusals: `NoSubscriber`, `Ahead`, `TooOld`.
+/// Returns the reason why a frame was or wasn't forwarded to a subscriber, as `Room::why` does. The reason is a code from 16 to 23. `number` is the unwrapped
+/// frame number. Refusals: `NoSubscriber`, `Ahead`, `TooOld`.
 #[unsafe(no_mangle)]
 pub extern "C" fn zoftemar_why(
     alloc: Global,

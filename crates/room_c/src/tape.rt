@@ -8,12 +8,12 @@ use sfu_base::Blob;
 use std::alloc::Global;
 use std::mem::replace;
 
-/// A recorder and, once it is finished, what is left of its file.
+/// A recorder or, once the recorder is finished, the remaining bytes of its file.
 #[derive(Drop)]
 pub enum Tape {
     /// The recorder takes packets.
     Taking(IvfRecorder),
-    /// The recorder is finished; this is left to fetch of its file.
+    /// The recorder is finished. The value holds the bytes of the file that C hasn't fetched yet.
     Giving(FileRest),
 }
 
@@ -21,7 +21,7 @@ impl Tape {
     ghost use Rattle.std.specs.Prelude.{◌≡◌, ◌≤◌, ◌<◌, ℕ, List, drop, length};
     ghost use Rattle.room_c.specs.Taping.{FeedsTape, GivesPiece, HasLeft, file_bytes_written};
 
-    /// Feeds a packet to the recorder. `Finished`: the recorder is finished, and nothing changes.
+    /// Feeds a packet to the recorder. Returns `Finished`, and changes nothing, if the recorder is finished.
     pub fn feed(&mut self, bytes: &[u8]) -> PlainReply
         requires { length bytes.now ≤ 2048 }
         ensures { FeedsTape self.old self.new bytes.now result }
@@ -32,7 +32,7 @@ impl Tape {
         }
     }
 
-    // What is left to fetch: the whole file, if the recorder isn't finished.
+    // Returns the bytes that C hasn't fetched yet. If the recorder isn't finished, these are all bytes of the file.
     fn into_rest(self) -> FileRest
         ensures { (left : List ℕ) → HasLeft self left → result ≡ left }
     {
@@ -64,7 +64,7 @@ impl Tape {
 ghost use Rattle.std.specs.Prelude.{◌≡◌};
 ghost use Rattle.room_c.specs.Taping.{complaint_reply, fed_reply};
 
-// The outcome of a packet as numbers.
+// Returns the result of feeding a packet, as numbers.
 fn feed_reply(answer: Result<(), RecordFault>) -> PlainReply
     ensures { result ≡ fed_reply answer }
 {
@@ -76,7 +76,7 @@ fn feed_reply(answer: Result<(), RecordFault>) -> PlainReply
     }
 }
 
-// A complaint of the strict receiver as numbers.
+// Returns a complaint of the strict receiver, as numbers.
 fn of_complaint(complaint: Complaint) -> PlainReply
     ensures { result ≡ complaint_reply complaint }
 {

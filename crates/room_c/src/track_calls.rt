@@ -1,5 +1,5 @@
-// Calls on a track. `seat` names the caller for the room's recorder; this room's recorder ignores it. A call returns
-// `Done` if its comment names no other code. If the handle has no room it returns `NoRoom`, unless `TooLong` or `NoSpace` applies.
+// Calls on a track. `seat` names the caller for the room's recorder; this room's recorder ignores it. An accepted call returns `Done`, unless its comment
+// names another code. If the handle has no room, a call returns `NoRoom`, unless `TooLong` or `NoSpace` applies.
 ghost use Rattle.std.specs.Prelude.{◌≡◌, ◌<◌, ◌≤◌, drop, length};
 ghost use Rattle.sfu_base.specs.declared.call.Call.TheVariants as call;
 ghost use Rattle.sfu_base.specs.declared.call.Kind.TheVariants.{Layered, Plain};
@@ -15,7 +15,7 @@ use crate::plain_reply::PlainReply;
 use sfu_base::{Call, Kind};
 use std::alloc::Global;
 
-/// Publishes a plain track, as `Room::publish` does. The track waits `hold` milliseconds at a gap in sequence numbers. Refusals: `NumberUsed`,
+/// Publishes a plain track, as `Room::publish` does. At a gap in the sequence numbers, the track waits `hold` milliseconds. Refusals: `NumberUsed`,
 /// `TooMany`, `NoMemory`.
 #[unsafe(no_mangle)]
 pub extern "C" fn zoftemar_publish_plain(
@@ -41,8 +41,8 @@ pub extern "C" fn zoftemar_publish_plain(
     )
 }
 
-/// Publishes a layered track, as `Room::publish` does. Its Dependency Descriptors are in the header extension element with this id (RFC
-/// 8285). Refusals: `NumberUsed`, `TooMany`, `BadExtensionId`, `NoMemory`.
+/// Publishes a layered track, as `Room::publish` does. The track's dependency descriptors are in the header extension element with this id (RFC 8285).
+/// Refusals: `NumberUsed`, `TooMany`, `BadExtensionId`, `NoMemory`.
 #[unsafe(no_mangle)]
 pub extern "C" fn zoftemar_publish_layered(
     alloc: Global,
@@ -99,21 +99,19 @@ pub extern "C" fn zoftemar_packet(
     if bytes.len() > PACKET_ROOM {
         return PlainReply::bare(Code::TooLong);
     }
-    match room.take(alloc) {
-        None => PlainReply::bare(Code::NoRoom),
-        Some(mut home) => {
-            let Home {
-                bundles,
-                scratch,
-                inbox,
-            } = &mut *home;
-            inbox.fill(bytes);
-            let reply = bundles.packet(seat, track, moment, inbox);
-            let told = PlainReply::of_reply(&reply, scratch);
-            room.put(home);
-            told
-        }
-    }
+    let Some(mut home) = room.take(alloc) else {
+        return PlainReply::bare(Code::NoRoom);
+    };
+    let Home {
+        bundles,
+        scratch,
+        inbox,
+    } = &mut *home;
+    inbox.fill(bytes);
+    let reply = bundles.packet(seat, track, moment, inbox);
+    let told = PlainReply::of_reply(&reply, scratch);
+    room.put(home);
+    told
 }
 
 /// Advances a track's time to `moment`, in milliseconds, as `Room::tick` does. Refusal: `NoTrack`.
@@ -128,24 +126,22 @@ pub extern "C" fn zoftemar_tick(
 ) -> PlainReply
     ensures does { Does room.old.held.home room.new.held.home seat (call.Tick track moment) result }
 {
-    match room.take(alloc) {
-        None => PlainReply::bare(Code::NoRoom),
-        Some(mut home) => {
-            let Home {
-                bundles,
-                scratch,
-                inbox: _,
-            } = &mut *home;
-            let reply = bundles.tick(seat, track, moment);
-            let told = PlainReply::of_reply(&reply, scratch);
-            room.put(home);
-            told
-        }
-    }
+    let Some(mut home) = room.take(alloc) else {
+        return PlainReply::bare(Code::NoRoom);
+    };
+    let Home {
+        bundles,
+        scratch,
+        inbox: _,
+    } = &mut *home;
+    let reply = bundles.tick(seat, track, moment);
+    let told = PlainReply::of_reply(&reply, scratch);
+    room.put(home);
+    told
 }
 
-/// Writes the sequence numbers that a track waits for to the start of `out`, as `Room::missing` does. Returns `Names`. Refusal: `NoTrack`. `NoSpace`:
-/// `out` has fewer than 1,024 items; nothing changes.
+/// Writes the missing sequence numbers, for which a track waits, to the start of `out`, as `Room::missing` does. Returns `Names`. Refusal: `NoTrack`.
+/// `NoSpace`: `out` has fewer than 1,024 items; nothing changes.
 #[unsafe(no_mangle)]
 pub extern "C" fn zoftemar_missing(
     alloc: Global,
@@ -178,7 +174,7 @@ pub extern "C" fn zoftemar_missing(
     }
 }
 
-/// Returns `Key`. `has` is the result of `Room::key_wanted`: whether to ask a track's publisher for a key frame. Refusal: `NoTrack`.
+/// Returns `Key`. `has` is the result of `Room::key_wanted`: whether a key frame should be requested from the track's publisher. Refusal: `NoTrack`.
 #[unsafe(no_mangle)]
 pub extern "C" fn zoftemar_key_wanted(
     alloc: Global,

@@ -1,4 +1,4 @@
-// A session's calls on a room with bundles.
+// Serves the calls of a session on a room with bundles.
 ghost use Rattle.room_c.specs.Recording.{HasState};
 ghost use Rattle.room_c.specs.Attending.{WorksFor};
 
@@ -7,9 +7,9 @@ use session_steps::{Output, Session};
 use sfu_base::Scratch;
 use simulcast::{BundleFault, Bundles};
 
-/// Serves the session's calls on the room, each from this seat, and passes the replies to the session, up to the next datagram to send. `Packet`:
-/// that datagram is in `scratch.packet`. `Nothing`: the session has no call left, and waits for the next datagram. `Bound`: a bundle forbids the
-/// session's next call, which is still to be made; those before it were made.
+/// Serves the session's calls on the room, all from this seat, and passes each reply to the session. Stops when the session has a datagram to send, or has no
+/// call left. `Packet`: the datagram to send is in `scratch.packet`. `Nothing`: no call is left, and the session waits for the next datagram. `Bound`: a
+/// bundle forbids the session's next call. This call hasn't been made, but the calls before it have.
 pub fn work<S: Session>(
     bundles: &mut Bundles<KeepNone>,
     seat: u32,

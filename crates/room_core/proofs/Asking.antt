@@ -1,4 +1,4 @@
--- A request for a cause returns the cause if it can be requested, and a request for a packet returns the next one.
+-- A query for a cause returns the cause if the cause can be queried, and a take returns the next packet.
 use Rattle.std.proofs.Common.{◌≡◌, ◌≤◌, ◌<◌, ◌+◌, ℕ, zero, suc, Bool, true, false, cond, List, [], ◌∷◌, ◌++◌, map, take, drop, length, refl, sym, ap, ◌∙◌, arith, Option, Some, None, Result, Ok, Err}
 use Rattle.std.specs.Prelude.{nat_le, nat_lt}
 use Rattle.std.proofs.lemmas.Bool.{le-ltb, leb-false, lt-leb}
@@ -17,7 +17,7 @@ use Rattle.room_core.specs.Replies.{told}
 
 -- ---- causes
 
--- a cause that can be requested is returned
+-- the cause of a number that can be queried is returned
 pub told_by : (steps : List Step) (n newest : ℕ) → newest_number steps ≡ Some newest → n ≤ newest → newest < n + 4096 → judged steps n ≡ Ok (cause_among steps n)
 told_by steps n newest is below near =
     ap (λ (o : Option ℕ). cond (is_ahead o n) (Err (Ahead (newest_number steps))) (rest o)) is
@@ -27,7 +27,7 @@ told_by steps n newest is below near =
     rest : Option ℕ → Result Verdict Refusal
     rest o = cond (is_too_old o n) (Err (TooOld (oldest_asked (number_or (newest_number steps) 0)))) (Ok (cause_among steps n))
 
--- what is returned is the cause of a number that can be requested
+-- a returned cause is that of a number that can be queried
 pub record IsTold (steps : List Step) (n : ℕ) (verdict : Verdict) : Type 0 where
   pub newest : ℕ
   pub newest_is : newest_number steps ≡ Some newest
@@ -62,7 +62,7 @@ asked_by steps n verdict e = by_newest (newest_number steps) refl e
 
 -- ---- takes
 
--- behind the first packets comes the next one
+-- the next packet follows the first packets
 pub next_of : (taken : ℕ) (out : List Packet) (bytes : List ℕ) (rest : List (List ℕ)) → taken ≤ length out → map bytes_of (take taken out) ++ bytes ∷ rest ≡ map bytes_of out
     → (p : Packet) × (first_of (drop taken out) ≡ Some p) × (bytes_of p ≡ bytes)
 next_of zero [] bytes rest fit e = absurd (let none : bytes ∷ rest ≡ [] = e in cc)
@@ -70,7 +70,7 @@ next_of zero (p ∷ out) bytes rest fit e = (p, refl, (let same : bytes_of p ≡
 next_of (suc taken) [] bytes rest fit e = absurd (let none : ⊥ = omega (arith, fit) in none)
 next_of (suc taken) (p ∷ out) bytes rest fit e = next_of taken out bytes rest (omega (arith, fit)) (ap (drop 1) e)
 
--- and none if they are all
+-- there is no next packet if the first packets are all
 pub none_of : (taken : ℕ) (out : List Packet) → map bytes_of (take taken out) ≡ map bytes_of out → first_of (drop taken out) ≡ None
 none_of zero [] e = refl
 none_of zero (p ∷ out) e = absurd (let none : bytes_of p ∷ map bytes_of out ≡ [] = sym e in cc)

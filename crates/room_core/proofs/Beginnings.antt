@@ -1,8 +1,8 @@
--- What a publish and a join do to a room, whatever calls were accepted before.
-use Rattle.std.proofs.Common.{Box, Global, ◌≡◌, ◌≤◌, ◌<◌, ◌+◌, ◌%◌, max, ℕ, Bool, true, false, cond, List, [], ◌∷◌, refl, sym, ap, subst, ◌∙◌, arith, Option, Some, None, is_some, eqb, leb, nat_eq, true≢false}
+-- The effect of a publish and a join on a room, whatever calls were accepted before.
+use Rattle.std.proofs.Common.{◌≡◌, ◌≤◌, ◌<◌, ◌+◌, ◌%◌, max, ℕ, Bool, true, false, cond, List, [], ◌∷◌, refl, sym, ap, subst, ◌∙◌, arith, Option, Some, None, is_some, eqb, leb, nat_eq, true≢false}
 use Rattle.std.proofs.lemmas.Bool.Decides.{nat_tests}
 use Rattle.std.proofs.lemmas.Bool.{eq-eqb, leb-false}
-use Rattle.indexmap.specs.IndexMap.{Updates, get, index_map_len, spare}
+use Rattle.indexmap.specs.IndexMap.{Updates, get, index_map_len}
 use Rattle.sfu_base.specs.Answer.{Answer, Done, Refused}
 use Rattle.sfu_base.specs.declared.call.Call.{Call}
 use Rattle.sfu_base.specs.declared.call.Call.TheVariants as call
@@ -17,7 +17,6 @@ use Rattle.forwarding_model.specs.History.{Entry, items_of, subscriber_of}
 use Rattle.forwarding_model.specs.History.Entry.{Joined as HasJoined}
 use Rattle.forwarding_model.specs.forwarding.Outgoing.{Subscriber}
 use Rattle.room_core.specs.declared.feed.Feed.{Feed}
-use Rattle.track_core.specs.declared.track.Track.{Track}
 use Rattle.room_core.specs.Stepping.{IsAt, IsBegun, kind_by}
 use Rattle.track_core.specs.Track.{Seen}
 use Rattle.room_core.specs.Indexed.{AreSame, IsSameTrack}
@@ -34,15 +33,12 @@ use Rattle.room_core.specs.Counts.{saturated}
 use Rattle.room_core.specs.Follows.{Follows, Happened, IsFresh}
 use Rattle.room_core.specs.Given.{resends_of}
 use Rattle.room_core.specs.Passing.{Both}
-use Rattle.room_core.specs.Content.{Does, IsAfter, IsFeedReady, IsFreshOn, IsPipelineReady, IsSubscriberAfter, IsTrackAfter}
-use Rattle.room_core.specs.declared.live.Ready.{Ready}
-use Rattle.frame_cache.specs.declared.cache.FrameCache.{FrameCache}
-use Rattle.room_core.specs.declared.live.Ready.TheVariants.{Nothing, Pipeline as ReadyPipeline, Sent as ReadySent}
+use Rattle.room_core.specs.Content.{Does, IsAfter, IsFreshOn, IsSubscriberAfter, IsTrackAfter}
 use Rattle.room_core.proofs.Counting.{none_counted, zero_is}
 use Rattle.room_core.proofs.TableSteps.{table_after, table_mapped, table_same}
 use Rattle.room_core.proofs.Stepping.{begun_at, kind_begun}
 
--- ---- no number comes twice
+-- ---- no number is used twice
 
 none_if : (b : Bool) (o : Option Published) → o ≡ None → cond b None o ≡ None
 none_if true o e = refl
@@ -226,7 +222,7 @@ pub begins : (subscriber : ℕ) (to : Subscriber) (kind : Kind) (es : List Entry
 begins subscriber to Plain es = ap (λ (b : Bool). cond b [] (timeline_as Plain subscriber es)) (eq-eqb subscriber subscriber refl)
 begins subscriber to (Layered id) es = ap (λ (b : Bool). cond b [] (timeline_as (Layered id) subscriber es)) (eq-eqb subscriber subscriber refl)
 
--- nothing happened to a fresh one
+-- nothing has happened to a new track or subscriber
 fresh_follows : (feed : Feed) (kind : Kind) (ssrc first : ℕ) (wish : Wish) → first < 65536 → IsFresh feed kind ssrc first wish
     → Follows kind feed (record { ssrc = ssrc; first = first; wish = wish }) []
 fresh_follows feed kind ssrc first wish small h = record {
@@ -267,14 +263,14 @@ pub of_some : (o : Option Published) → is_some o ≡ true → (p : Published) 
 of_some None e = absurd (true≢false (sym e))
 of_some (Some p) e = (p, refl)
 
--- the feed of a subscriber of a live track is of the track's kind
+-- the feed of a subscriber of a live track has the track's kind
 fresh_kind : (past : List Call) (track : ℕ) (feed : Feed) (ssrc first : ℕ) (wish : Wish) (o : Option LiveTrack) (p : Option Published) → Both (IsTrackAfter past track) o p
     → IsFreshOn o feed ssrc first wish → IsFresh feed (kind_of track past) ssrc first wish
 fresh_kind past track feed ssrc first wish None p h f = absurd f
 fresh_kind past track feed ssrc first wish (Some a) None h f = absurd h
 fresh_kind past track feed ssrc first wish (Some a) (Some p) h f = subst (λ (k : Kind). IsFresh feed k ssrc first wish) (h.kind_is ∙ h.published_kind) f
 
--- a track that is as it was but for its places
+-- a track that is as before, except for its places
 pub same_track : (past : List Call) (n : ℕ) (a a' : LiveTrack) (p : Published) → IsSameTrack a a' → IsTrackAfter past n a p → IsTrackAfter past n a' p
 same_track past n a a' p s x = record {
   kind_is = s.kind_is ∙ x.kind_is;
@@ -355,9 +351,9 @@ join_does old new subscriber track ssrc first wish live was small none tracks ag
           });
     }
 
--- ---- what was ready
+-- ---- what was prepared
 
--- the track of a subscriber that was made ready is live
+-- the track of a prepared subscriber is live
 pub track_live : (o : Option LiveTrack) (feed : Feed) (ssrc first : ℕ) (wish : Wish) → IsFreshOn o feed ssrc first wish → (t : LiveTrack) × (o ≡ Some t)
 track_live None feed ssrc first wish h = absurd h
 track_live (Some t) feed ssrc first wish h = (t, refl)
@@ -366,26 +362,26 @@ at_most_one : (b : Bool) → (let n : ℕ = cond b 0 1 in n) ≤ 1
 at_most_one true = omega arith
 at_most_one false = omega arith
 
--- and one more is at most 256
+-- one more subscriber makes at most 256
 pub few_joined : (found : Bool) (highest before subscriber now : ℕ) (was : Option LiveSubscriber) → join_refusal found highest before subscriber ≡ None
     → now ≡ before + cond (is_some was) 0 1 → now ≤ 256
 few_joined found highest before subscriber now was none len =
     let ok = (accepted_subscriber found highest before subscriber none).2 in let one = at_most_one (is_some was) in omega (arith, ok, len, one)
 
-pub ready_pipeline : (o : Option Refusal) (content : Content) (kind : Kind) (ssrc hold : ℕ) (ready : Ready) (pipeline : Box Track Global) (told : Box FrameCache Global) → ready ≡ ReadyPipeline pipeline told
-    → IsPipelineReady o content kind ssrc hold ready → (o ≡ None) × IsBegun pipeline.value kind ssrc hold × (0 < spare content.tracks)
-ready_pipeline (Some why) content kind ssrc hold ready pipeline told e h = absurd (let none : ReadyPipeline pipeline told ≡ Nothing = sym e ∙ h in cc)
-ready_pipeline None content kind ssrc hold ready pipeline told e h =
-    let r = subst (λ (r : Ready). IsPipelineReady None content kind ssrc hold r) e h in (refl, r.0, r.1)
+-- ---- a refused publish or join
 
-pub ready_feed : (o : Option Refusal) (content : Content) (track ssrc first : ℕ) (wish : Wish) (ready : Ready) (feed : Box Feed Global) → ready ≡ ReadySent feed
-    → IsFeedReady o content track ssrc first wish ready
-    → (o ≡ None) × IsFreshOn (get nat_eq content.tracks track) feed.value ssrc first wish × (first < 65536) × (0 < spare content.subscribers)
-ready_feed (Some why) content track ssrc first wish ready feed e h = absurd (let none : ReadySent feed ≡ Nothing = sym e ∙ h in cc)
-ready_feed None content track ssrc first wish ready feed e h =
-    let r = subst (λ (r : Ready). IsFeedReady None content track ssrc first wish r) e h in (refl, r.0, r.1, r.2)
+pub publish_is_refused : (content : Content) (track ssrc hold : ℕ) (kind : Kind) (why : Refusal)
+    → Some why ≡ publish_refusal content.highest_track (index_map_len content.tracks) track kind
+    → (bytes numbers : List ℕ) → Does content content (call.Publish track kind ssrc hold) (reply.Refused why) bytes numbers
+publish_is_refused content track ssrc hold kind why is bytes numbers =
+    let same : (past : List Call) → IsAfter content past → answer past (call.Publish track kind ssrc hold) ≡ Refused why = λ past h.
+    ap done_or (ap (λ (n : ℕ). publish_refusal n (live_tracks past) track kind) (sym h.highest_track_is)
+    ∙ ap (λ (n : ℕ). publish_refusal content.highest_track n track kind) (sym h.track_count) ∙ sym is) in
+    record {
+      answered = λ past h. sym (same past h);
+      done = λ past h. subst (λ (a : Answer). IsAfter content (afterwards a (call.Publish track kind ssrc hold) past)) (sym (same past h)) h;
+    }
 
--- a join that is refused
 pub join_is_refused : (content : Content) (subscriber track ssrc first : ℕ) (wish : Wish) (why : Refusal)
     → Some why ≡ join_refusal (is_some (get nat_eq content.tracks track)) content.highest_subscriber (index_map_len content.subscribers) subscriber
     → (bytes numbers : List ℕ) → Does content content (call.Join subscriber track ssrc first wish) (reply.Refused why) bytes numbers

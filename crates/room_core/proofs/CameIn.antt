@@ -1,5 +1,5 @@
--- What holds of the bytes of each packet that came to a track holds of those that its order releases, and so of each packet that a subscriber
--- sees.
+-- What is true of the bytes of each packet that came to a track is true of those
+-- that its reorder window releases, and so of each packet that a subscriber sees.
 use Rattle.std.proofs.Common.{◌≡◌, ℕ, ◌+◌, ◌-◌, Bool, true, false, cond, nat_lt, nat_le, eqb, List, [], ◌∷◌, ◌++◌, length, refl, sym, subst, Option, Some, None, Result, Ok, Err}
 use Rattle.std.specs.Prelude.{IfSome}
 use Rattle.std.specs.List.{AllByRecursion}
@@ -37,7 +37,7 @@ use Rattle.room_core.specs.Passing.{released_as}
 use Rattle.room_core.specs.WellFormed.{AreWellFormed}
 use Rattle.room_core.proofs.Stepping.{format_is}
 
--- ---- the order
+-- ---- the reorder window
 
 abbrev IsRead : List ℕ → Type 0
 IsRead bytes = first_fault bytes ≡ None
@@ -90,7 +90,7 @@ held_read hold (event ∷ past) all = (one_more hold (order_of hold past) event 
 
 -- ---- items
 
--- the packet is one that RTP reads
+-- the packet is valid RTP
 pub record CameIn (p : Packet) : Type 0 where
   pub bytes : List ℕ
   pub reads : first_fault bytes ≡ None
@@ -168,7 +168,7 @@ entries_came (call.KeyWanted track ∷ past) n all = entries_came past n all.1
 entries_came (call.Plead subscriber ∷ past) n all = entries_came past n all.1
 entries_came (call.Why subscriber number ∷ past) n all = entries_came past n all.1
 
--- ---- what a subscriber sees
+-- ---- the packets that a subscriber sees
 
 abbrev pub HasCome : Happened → Type 0
 HasCome (WholeFrame frame) = AllByRecursion CameIn frame.packets

@@ -1,4 +1,4 @@
--- What is counted of a track, as the pipeline keeps it and as the history tells it.
+-- The counts of a track: those that the pipeline has are those of the history.
 use Rattle.std.proofs.Common.{◌≡◌, ◌-◌, ℕ, List, [], ◌++◌, append-nil, length, sym, ap, ap₂, subst, ◌∙◌, Option, Some, None, Ok, Result, option_map, nat_eq}
 use Rattle.indexmap.specs.IndexMap.{get}
 use Rattle.sfu_base.specs.declared.call.Call.{Call}

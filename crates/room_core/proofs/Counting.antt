@@ -1,4 +1,4 @@
--- What a feed counts at each event.
+-- The counts of a feed at each event.
 use Rattle.std.proofs.Common.{◌≡◌, ◌+◌, ◌≤◌, ◌<◌, ℕ, Bool, true, not, List, [], ◌∷◌, length, refl, sym, ap, ◌∙◌, arith}
 use Rattle.std.proofs.lemmas.Bool.{le-ltb, lt-ltb}
 use Rattle.sfu_base.specs.declared.frame.Step.{Step}

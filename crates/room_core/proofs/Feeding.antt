@@ -1,4 +1,4 @@
--- How each packet and frame changes a subscriber's part of the room, and what is reported of it.
+-- The effect of each packet and frame on the code's state for a subscriber, and on what is reported of it.
 use Rattle.std.proofs.Common.{◌≡◌, ◌≤◌, ◌<◌, ℕ, Bool, true, false, List, [], ◌∷◌, length, map, refl, sym, ap, subst, ◌∙◌, ◌||◌, arith, Some}
 use Rattle.std.proofs.lemmas.List.{length-map}
 use Rattle.sfu_base.specs.declared.call.Kind.{Kind}
@@ -49,7 +49,7 @@ use Rattle.room_core.proofs.SentMarked.{queued_by, sends_frame, sent_keeps_count
 pub stands_queued : (x : Selecting) (s : Standing) (queued : ℕ) → StandsFor x s → StandsFor x (record s { queued = queued })
 stands_queued x s queued h = record { wish = h.wish; epoch = h.epoch; target = h.target; key_passed = h.key_passed; numbers = h.numbers }
 
--- as many packets are queued as the standing has
+-- the number of queued packets is that of the standing
 pub queued_same : (kind : Kind) (feed : Feed) (to : Subscriber) (events : List Happened) → Follows kind feed to events
     → (standing to.wish events).queued ≡ length feed.ring.queued
 queued_same kind feed to events h =
@@ -99,7 +99,7 @@ lies_above meaning wish events track =
     each_weaker (λ g. IsMember g (meanings_of events)) (λ g. g.number < meaning.number) (standing wish events).epoch_passed
     (λ g member. (each_member (Precedes meaning) (meanings_of events) g track.1 member).rises) (sound wish events track.2).known
 
--- what the calls say of a frame of these packets
+-- the results of the calls for a frame of these packets
 pub record Judges (old new : Feed) (meaning : FrameMeaning) (packets : List (List ℕ)) (count queued : ℕ) (verdict : Verdict) : Type 0 where
   pub kind_is : new.kind ≡ old.kind
   pub newest_is : new.selector.newest ≡ Some (targets_of meaning)
@@ -111,7 +111,7 @@ pub record Judges (old new : Feed) (meaning : FrameMeaning) (packets : List (Lis
   pub written : (steps : List Step) → IsAfter old.causes steps → IsAboveSteps meaning.number steps
       → IsAfter new.causes (record { number = meaning.number; verdict = verdict } ∷ steps)
 
--- what they say of it at a standing, over the verdicts before
+-- these results at a standing, over the verdicts before
 record JudgesAt (new : Feed) (s : Standing) (steps : List Step) (meaning : FrameMeaning) (packets : ℕ) (verdict : Verdict) : Type 0 where
   verdict_is : verdict ≡ verdict_at s meaning packets
   stands : StandsFor new.selector (after_frame s meaning packets)
@@ -160,7 +160,7 @@ passes_where s f packets h = passes_from_verdict (has_passed s f) (key_passed s 
 passed_where : (s : Standing) (f : FrameMeaning) (packets : ℕ) → passes_at s f packets ≡ true → verdict_at s f packets ≡ Passed
 passed_where s f packets h = verdict_from_passes (has_passed s f) (key_passed s f) s.wish f (target_at s f) s.queued packets h
 
--- what the calls say of the packets of a frame that passed
+-- the results of the calls for the packets of a frame that passed
 pub record Queues (old new : Feed) (meaning : FrameMeaning) (track : Seen) (queued : ℕ) (is_top told : Bool) (mask : ℕ) : Type 0 where
   pub pushes : PushesFrame old.ring new.ring (queued_by told track.layers mask track.packets) is_top
   pub top : (s : Standing) → StandsFor old.selector s → IsAboveAll meaning s → s.queued ≡ queued → is_top ≡ is_top_layer meaning (candidate_at s meaning)

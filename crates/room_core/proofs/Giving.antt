@@ -1,4 +1,4 @@
--- The answers to a subscriber's takes are what was taken of all that is sent to the subscriber.
+-- The answers to a subscriber's takes are the packets that were taken of all packets sent to the subscriber.
 use Rattle.std.proofs.Common.{◌≡◌, ◌≤◌, ◌<◌, ℕ, zero, suc, Bool, true, false, cond, List, [], ◌∷◌, ◌++◌, map, drop, eqb, length, refl, sym, ap, subst, ◌∙◌, arith, Option, Some, None, is_some, true≢false}
 use Rattle.std.specs.Prelude.{fold}
 use Rattle.std.proofs.lemmas.Bool.Decides.{nat_tests}
@@ -71,7 +71,7 @@ gave_packet : (o : Option Packet) → is_accepted (sent_or o (Refused Empty)) �
 gave_packet None e = absurd (true≢false (sym e))
 gave_packet (Some p) e = (p, refl)
 
--- ---- what the takes of a timeline gave
+-- ---- the packets that the takes of a timeline returned
 
 gave_frames : (send : Sender TemplateStructure) (to : Subscriber) (frames : List (Frame TemplateStructure)) (events : List Happened)
     → given send to (frame_events frames ++ events) ≡ given send to events
@@ -85,7 +85,7 @@ gave_released send to Plain older (Missing ∷ items) events = gave_released sen
 gave_released send to Plain older (Arrived p ∷ items) events = gave_released send to Plain older items events
 gave_released send to (Layered id) older items events = gave_frames send to (frames_since (format_of id) older items) events
 
--- what goes to a track's subscribers gives nothing by itself
+-- an event for all of a track's subscribers returns no packet by itself
 gave_where : (b : Bool) (send : Sender TemplateStructure) (to : Subscriber) (kind : Kind) (n : ℕ) (items : List Item) (es : List Entry)
     → given send to (timeline_as kind n (and_where b (Released items) es)) ≡ given send to (timeline_as kind n es)
 gave_where true send to Plain n items es = gave_released send to Plain (items_of es) items (timeline_as Plain n es)
@@ -96,14 +96,14 @@ knows_where : (b : Bool) (n : ℕ) (items : List Item) (es : List Entry) → sub
 knows_where true n items es = refl
 knows_where false n items es = refl
 
--- ---- what the takes of a history gave
+-- ---- the packets that the takes of a history returned
 
 record IsKnown (n : ℕ) (j : Joined) (past : List Call) : Type 0 where
   known : j.track ≤ highest_track past
   is : subscriber_of n (entries_of j.track past) ≡ Some (subscriber_by j)
   gave : given_to n past ≡ map bytes_of (given (sent (kind_of j.track past)) (subscriber_by j) (events_for n j past))
 
--- a call that is nothing to what the takes gave
+-- a call that doesn't change the packets that the takes returned
 stays : (n : ℕ) (j : Joined) (past next : List Call) → IsKnown n j past → origin j.track next ≡ origin j.track past → highest_track past ≤ highest_track next
     → given_to n next ≡ given_to n past → subscriber_of n (entries_of j.track next) ≡ subscriber_of n (entries_of j.track past)
     → ((kind : Kind) → given (sent kind) (subscriber_by j) (timeline_as kind n (entries_of j.track next)) ≡ given (sent kind) (subscriber_by j) (timeline_as kind n (entries_of j.track past)))
@@ -136,7 +136,7 @@ releases past next n j b items h origins highest gives entries =
     stays n j past next h origins (omega (arith, highest)) gives (ap (subscriber_of n) entries ∙ knows_where b n items (entries_of j.track past))
     (λ kind. ap (λ (es : List Entry). given (sent kind) (subscriber_by j) (timeline_as kind n es)) entries ∙ gave_where b (sent kind) (subscriber_by j) kind n items (entries_of j.track past))
 
--- a join of its own begins, one of another is nothing to it
+-- the subscriber's own join begins with no packets; another subscriber's join changes nothing
 begins_new : (track ssrc first : ℕ) (wish : Wish) (past : List Call) (n : ℕ) (p : Published) → published track past ≡ Some p
     → IsKnown n (record { track = track; ssrc = ssrc; first = first; wish = wish }) (call.Join n track ssrc first wish ∷ past)
 begins_new track ssrc first wish past n p live =
@@ -270,7 +270,7 @@ finds : (kind : Kind) (n : ℕ) (es : List Entry) (to : Subscriber) → subscrib
 finds Plain n es to is = plain_timeline_finds (sent Plain) n es to is
 finds (Layered id) n es to is = timeline_finds (format_of id) (sent (Layered id)) n es to is
 
--- of a live subscriber of a history: each of its takes found a packet
+-- for a live subscriber of a history: each of its takes found a packet
 pub finds_all : (past : List Call) → AreAccepted past → (n : ℕ) (j : Joined) → joined n past ≡ Some j
     → FindPackets (sent (kind_of j.track past)) (subscriber_by j) (events_for n j past)
 finds_all past all n j is = finds (kind_of j.track past) n (entries_of j.track past) (subscriber_by j) (known_after past all n j is).is

@@ -1,4 +1,4 @@
--- What a subscriber takes, what it is sent again, and what is reported to it.
+-- The packets that a subscriber takes, those that resends return to it, and what is reported to it.
 use Rattle.std.proofs.Common.{◌≡◌, ℕ, ◌+◌, Bool, true, false, cond, List, [], ◌∷◌, map, drop, refl, sym, ap, ap₂, subst, ◌∙◌, Option, Some, None, Result, Err, eqb, is_ok}
 use Rattle.std.specs.List.{find}
 use Rattle.std.specs.Option.{option_map}
@@ -30,7 +30,7 @@ use Rattle.room_core.proofs.Rings.{ring_taken}
 
 -- ---- takes
 
--- what a take finds, by what is queued
+-- the packet that a take finds, by the queued packets
 take_by : (kind : Kind) (feed : Feed) (ring : Ring) (counts : FeedCounts) (result : Result ℕ Refusal) (found : Bool) (before bytes : List ℕ) (to : Subscriber) (events : List Happened) (waits : List Packet)
     → Follows kind feed to events → drop (takes_of events) (outgoing (sent kind) to events) ≡ waits → TakesFrom (map bytes_of waits) feed.ring ring result before bytes
     → found ≡ is_ok result → counts ≡ and_taken found feed.counts → TakesNext (first_of waits) kind feed (record feed { ring = ring; counts = counts }) found before bytes to events

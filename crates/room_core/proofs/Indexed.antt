@@ -1,4 +1,4 @@
--- What a track makes goes from place to place of its set: the subscribers in between are of other tracks.
+-- A track's packets and frames are offered at each place of its set; the subscribers at places between belong to other tracks.
 use Rattle.std.proofs.Common.{◌≡◌, ◌<◌, ◌≤◌, ◌+◌, ℕ, zero, suc, false, List, [], ◌∷◌, length, refl, sym, ap, ◌∙◌, arith, inl, inr, Some, None, slice_get, nat_eq, true≢false}
 use Rattle.std.proofs.lemmas.Bool.{cases_lt}
 use Rattle.std.specs.Map.{lookup, values_of}
@@ -18,7 +18,7 @@ track_at [] q e at = absurd (let none : None ≡ Some e = at in cc)
 track_at (f ∷ es) zero e at = let same : f ≡ e = cc in ap (λ (x : ℕ × LiveSubscriber). Some x.1.track) same
 track_at (f ∷ es) (suc q) e at = track_at es q e at
 
--- a subscriber at a place that the set hasn't is of another track
+-- a subscriber at a place that isn't in the set is of another track
 apart : (places : List ℕ) (number q : ℕ) (es : List (ℕ × LiveSubscriber)) (e : ℕ × LiveSubscriber) → HasPlaces places number (tracks_of es)
     → has_place places q ≡ false → slice_get es q ≡ Some e → e.1.track ≡ number → ⊥
 apart places number q es e has none at same = true≢false (sym (has q (track_at es q e at ∙ ap Some same)) ∙ none)
@@ -28,7 +28,7 @@ no_entry [] q e le at = cc
 no_entry (f ∷ es) zero e le at = omega (arith, le)
 no_entry (f ∷ es) (suc q) e le at = no_entry es q e (omega (arith, le)) at
 
--- a place that isn't within a table of this length
+-- a place that is outside a table of this length
 pub not_within : (before now q : ℕ) → now ≡ before → (q < now → ⊥) → before ≤ q
 not_within before now q same out = elim (cases_lt q now) [
   | inl lt ↦ absurd (out lt)
@@ -53,7 +53,7 @@ module _ (R : Feed → Feed → Type 0) (number : ℕ) (places : List ℕ) (old 
       → ChangedFirst (IsPassed R number) (place + 1) old (set_value_at new place w)
   passed_next from place new v w first h at r = changed_next (IsPassed R number) place old new v w (passed_gap from place new h first.0 first.2) at r
 
-  -- or it is behind the last
+  -- or the next place is after the last subscriber
   pub passed_over : (from place : ℕ) (new : List (ℕ × LiveSubscriber)) → IsFirstFrom places from (Some place)
       → ChangedFirst (IsPassed R number) from old new → length old ≤ place → ChangedFirst (IsPassed R number) (place + 1) old new
   passed_over from place new first h le =
@@ -66,7 +66,7 @@ module _ (R : Feed → Feed → Type 0) (number : ℕ) (places : List ℕ) (old 
       changed_all (IsPassed R number) (from + length old) old new
       (passed_gap from (from + length old) new h (omega arith) (λ q above below. none q above)) (omega arith)
 
--- each keeps its track
+-- each subscriber keeps its track
 pub passed_tracks : (R : Feed → Feed → Type 0) (number i : ℕ) (old new : List (ℕ × LiveSubscriber)) → ChangedFirst (IsPassed R number) i old new
     → tracks_of new ≡ tracks_of old
 passed_tracks R number zero old new h = ap tracks_of h
@@ -75,7 +75,7 @@ passed_tracks R number (suc i) (e ∷ old) [] h = absurd h
 passed_tracks R number (suc i) (e ∷ old) (f ∷ new) h =
     ap (λ (n : ℕ). n ∷ tracks_of new) h.1.track ∙ ap (λ (ns : List ℕ). e.1.track ∷ ns) (passed_tracks R number i old new h.2)
 
--- ---- who waits
+-- ---- subscribers that wait
 
 module _ (number : ℕ) (places : List ℕ) (es : List (ℕ × LiveSubscriber)) (has : HasPlaces places number (tracks_of es)) where
   waits_gap : (i p : ℕ) → AllFirst (WaitsOne false number) i es → i ≤ p → HasNone places i p → AllFirst (WaitsOne false number) p es

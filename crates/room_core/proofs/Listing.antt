@@ -27,7 +27,7 @@ use Rattle.room_core.specs.Ready.{AreReady, is_entry_ready, is_ready_by, ready_i
 
 -- ---- the loop
 
--- the list as far as the loop has come
+-- the list up to the loop's present entry
 pub record IsListed (track place : ℕ) (entries : List (ℕ × LiveSubscriber)) (old now : List ℕ) (count : ℕ) : Type 0 where
   pub lists : take count now ≡ take (length old) (ready_in track (take place entries))
   pub within : count ≤ length now
@@ -43,7 +43,7 @@ key_first : (b : Bool) (n : ℕ) (s : LiveSubscriber) → keys_of (cond b ((n, s
 key_first true n s = refl
 key_first false n s = refl
 
--- one entry more
+-- one more entry
 ready_more : (track p n : ℕ) (s : LiveSubscriber) (es : List (ℕ × LiveSubscriber)) → slice_get es p ≡ Some (n, s)
     → ready_in track (take (suc p) es) ≡ ready_in track (take p es) ++ cond (is_entry_ready track s) (n ∷ []) []
 ready_more track p n s [] at = absurd (let none : None ≡ Some (n, s) = at in cc)

@@ -1,4 +1,4 @@
--- The number of a track's newest frame, as the pipeline keeps it and as the history tells it.
+-- The number of a track's newest frame: that of the pipeline is that of the history.
 use Rattle.std.proofs.Common.{◌≡◌, ℕ, List, sym, ap, subst, ◌∙◌, Option, Some, None, Ok, Result, option_map, nat_eq}
 use Rattle.indexmap.specs.IndexMap.{get}
 use Rattle.sfu_base.specs.declared.call.Call.{Call}

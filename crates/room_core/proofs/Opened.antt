@@ -1,4 +1,4 @@
--- A frame opens its target exactly if the selector says so.
+-- A frame opens its target if and only if the selector says so.
 use Rattle.std.proofs.Common.{◌≡◌, ◌<◌, ℕ, Bool, true, false, cond, List, [], ◌∷◌, ◌++◌, inl, inr, refl, sym, ap, ◌∙◌, subst, arith, Option, Some, None}
 use Rattle.std.proofs.lemmas.Bool.{eq-eqb, ne_eqb}
 use Rattle.sfu_base.specs.declared.frame.FrameMeaning.{FrameMeaning}
@@ -36,7 +36,7 @@ stands_in (PlainPacket p ∷ since) past frame = stands_in since past frame
 stands_in (WishChange w ∷ since) past frame = stands_in since past frame
 stands_in (Take ∷ since) past frame = stands_in since past frame
 
--- a target that was open before was opened by a frame below
+-- a target that was open before was opened by an earlier frame
 opened_below : (wish : Wish) (events : List Happened) (f : FrameMeaning) (target opened : ℕ) → IsOneTrack (f ∷ meanings_of events)
     → (standing wish events).target ≡ Open target opened → opened < f.number
 opened_below wish events f target opened track is =
@@ -44,7 +44,7 @@ opened_below wish events f target opened track is =
     let member : IsMember w.frame.meaning (meanings_of events) = subst (λ (l : List Happened). IsMember w.frame.meaning (meanings_of l)) (sym w.stands) (stands_in w.since w.past w.frame) in
     subst (λ (n : ℕ). n < f.number) w.number (each_member (Precedes f) (meanings_of events) w.frame.meaning track.1 member).rises
 
--- what f leaves of the target isn't opened by f
+-- the target that is left isn't opened by f
 kept_not_opened : (wish : Wish) (events : List Happened) (f : FrameMeaning) → IsOneTrack (f ∷ meanings_of events) → opens f (kept_target_at (standing wish events) f) ≡ false
 kept_not_opened wish events f track = go (kept_target_at (standing wish events) f) refl
   where
@@ -54,7 +54,7 @@ kept_not_opened wish events f track = go (kept_target_at (standing wish events) 
         let below = opened_below wish events f target opened track (was_open (standing wish events) f target opened e) in
         ne_eqb opened f.number (λ same. omega (arith, below, same))
 
--- f opens its target exactly if there is one that it can open
+-- f opens its target if and only if there is a target that it can open
 pub opens_here : (wish : Wish) (events : List Happened) (f : FrameMeaning) → IsOneTrack (f ∷ meanings_of events)
     → is_opening_at (standing wish events) f ≡ opens f (candidate_at (standing wish events) f)
 opens_here wish events f track = go (opening (has_passed s f) (key_passed s f) s.wish f (kept_target_at s f))
@@ -66,7 +66,7 @@ opens_here wish events f track = go (opening (has_passed s f) (key_passed s f) s
     go None = sym (kept_not_opened wish events f track)
     go (Some target) = sym (eq-eqb f.number f.number refl)
 
--- if f passes, the target after it is the candidate
+-- if f passes, the candidate is the target after it
 pub target_here : (s : Standing) (f : FrameMeaning) (packets : ℕ) → passes_at s f packets ≡ true → (after_frame s f packets).target ≡ candidate_at s f
 target_here s f packets passes = ap (λ (b : Bool). (admitted b s f packets).target) passes
 

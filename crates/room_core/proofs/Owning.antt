@@ -1,4 +1,4 @@
--- How a change of a wish, and a take, change a room, whatever calls were accepted before: each is an event of one subscriber only.
+-- The effect of a change of a wish, and of a take, on a room, whatever calls were accepted before: each is an event of only one subscriber.
 use Rattle.std.proofs.Common.{◌≡◌, ◌≤◌, ◌+◌, ℕ, Bool, true, false, cond, List, [], ◌∷◌, ◌++◌, length, map, refl, sym, ap, subst, ◌∙◌, Option, Some, None, Ok, Err, Result, eqb, nat_eq, true≢false}
 use Rattle.std.specs.Prelude.{nat_lt}
 use Rattle.std.proofs.lemmas.Bool.{eq-eqb, lt-ltb}
@@ -46,7 +46,7 @@ use Rattle.room_core.proofs.Places.{IsWritten}
 use Rattle.room_core.proofs.TableSteps.{table_after, table_same}
 use Rattle.room_core.proofs.Stepping.{formats_read}
 
--- ---- what the history tells after it
+-- ---- the history after it
 
 pub record IsOwn (subscriber : ℕ) (entry : Entry) (past next : List Call) : Type 0 where
   pub published_is : (n : ℕ) → published n next ≡ published n past
@@ -91,7 +91,7 @@ take_own subscriber past = record {
   resends_is = λ n. refl;
 }
 
--- the entry is nothing to a track, and to any other subscriber
+-- the entry changes no track, and no other subscriber
 pub record IsOwnEntry (subscriber : ℕ) (entry : Entry) : Type 0 where
   pub items : (es : List Entry) → items_of (entry ∷ es) ≡ items_of es
   pub joins : (n : ℕ) (es : List Entry) → subscriber_of n (entry ∷ es) ≡ subscriber_of n es
@@ -205,7 +205,7 @@ own_after old new past next subscriber entry known now r own h found writes trac
       highest_subscriber_is = highest' ∙ h.highest_subscriber_is ∙ sym r.highest_subscriber_is;
     }
 
--- a resend that returns a packet is counted, and nothing else changes
+-- a resend that returns a packet is counted, and changes nothing else
 pub asked_after : (old new : Content) (past : List Call) (sequence subscriber : ℕ) (known now : LiveSubscriber) → IsAfter old past
     → Some known ≡ get nat_eq old.subscribers subscriber → IsWritten subscriber old.subscribers new.subscribers now
     → now.track ≡ known.track → now.resent ≡ raised known.resent → now.feed.value ≡ known.feed.value
@@ -253,7 +253,7 @@ asked_after old new past sequence subscriber known now h found writes track agai
       highest_subscriber_is = highest' ∙ h.highest_subscriber_is;
     }
 
--- a call that is only a query leaves the content unchanged
+-- a query leaves the content unchanged
 pub why_after : (content : Content) (past : List Call) (number subscriber : ℕ) → IsAfter content past → IsAfter content (call.Why subscriber number ∷ past)
 why_after content past number subscriber h = record {
   tracks = table_same (IsTrackAfter past) (IsTrackAfter (call.Why subscriber number ∷ past)) (get nat_eq content.tracks) (λ n. published n past)
@@ -275,7 +275,7 @@ why_after content past number subscriber h = record {
   highest_subscriber_is = h.highest_subscriber_is;
 }
 
--- frames of any timeline are one track's
+-- frames of any timeline are those of one track
 plain_released : (older items : List Item) (events : List Happened) → frames_of (packets_released older items ++ events) ≡ frames_of events
 plain_released older [] events = refl
 plain_released older (Missing ∷ items) events = plain_released older items events
@@ -378,7 +378,7 @@ take_does old new subscriber known now before bytes found writes track again fol
           tables highest highest');
     }
 
--- a take that finds none, and whatever leaves a subscriber as it was
+-- a take that finds no packet, and any call that leaves a subscriber as it was
 pub same_after : (old new : Content) (past : List Call) (subscriber : ℕ) (known now : LiveSubscriber) → IsAfter old past → Some known ≡ get nat_eq old.subscribers subscriber
     → IsWritten subscriber old.subscribers new.subscribers now → now.track ≡ known.track → now.resent ≡ known.resent → now.feed.value ≡ known.feed.value
     → new.tracks ≡ old.tracks → new.highest_track ≡ old.highest_track → new.highest_subscriber ≡ old.highest_subscriber → IsAfter new past
@@ -426,7 +426,7 @@ take_finds_none old new subscriber known now before bytes found writes track aga
           (same_after old new past subscriber known now h found writes track again (none past h).1 tables highest highest');
     }
 
--- ---- a resend is counted, and a cause changes nothing
+-- ---- a resend is counted, and a query changes nothing
 
 resent_ok : (o : Option Packet) (before bytes : List ℕ) (oldest next : ℕ) → ResendsIt o (Ok tt) before bytes oldest next → sent_or o (Refused (NotKept oldest next)) ≡ Sent bytes
 resent_ok None before bytes oldest next h = absurd (let none : Ok tt ≡ Err (NotKept oldest next) = h.0 in cc)

@@ -25,7 +25,7 @@ some_entry : {V : Type 0} (o : Option (ℕ × V)) (v : V) → option_map (λ e. 
 some_entry None v is = absurd cc
 some_entry (Some e) v is = (e, refl, let same : e.1 ≡ v = cc in same)
 
--- the entry at the place where a key and a value are found
+-- the entry at the place where this key and value are found
 entry_found : {V : Type 0} (es : List (ℕ × V)) (k place : ℕ) (v : V) → lookup_key (nat_eq k) es ≡ slice_get (keys_of es) place → slice_get (values_of es) place ≡ Some v
     → slice_get es place ≡ Some (k, v)
 entry_found es k place v key value =
@@ -35,7 +35,7 @@ entry_found es k place v key value =
     e.1 ∙ ap (λ n. Some (n, e.0.1)) (sym same) ∙ ap (λ x. Some (k, x)) e.2
 
 module _ {V S : Type 0} where
-  -- what the table returns as the place
+  -- the place that the table returns
   pub place_found : (m : IndexMap ℕ V S) (k : ℕ) (result : Option ℕ) → result ≡ index_of_by (nat_eq k) m → is_some result ≡ is_some (get nat_eq m k)
       → IfSome result (λ place. slice_get (values m) place ≡ get nat_eq m k) → IsPlace k m.entries (get nat_eq m k) result
   place_found m k None index some value = none (get nat_eq m k) some
@@ -63,7 +63,7 @@ module _ {V S : Type 0} where
 
   -- ---- the write
 
-  -- the table has this value under the key k, and is else as it was
+  -- the table has this value under the key k, and is otherwise as before
   pub record IsWritten (k : ℕ) (old new : IndexMap ℕ V S) (now : V) : Type 0 where
     pub count : index_map_len new ≡ index_map_len old
     pub found : (n : ℕ) → get nat_eq new n ≡ cond (nat_eq k n) (Some now) (get nat_eq old n)

@@ -1,4 +1,4 @@
--- The promises to subscribers, by the laws of forwarding.
+-- The guarantees for subscribers, by the laws of forwarding.
 use Rattle.std.proofs.Common.{◌≡◌, ◌<◌, ◌^◌, ℕ, Bool, true, false, cond, List, [], ◌∷◌, ◌++◌, map, take, drop, eqb, length, sym, ap, subst, ◌∙◌, Option, Some, None}
 use Rattle.std.specs.List.{AllByRecursion}
 use Rattle.std.proofs.lemmas.List.{map-append, take-append-drop}
@@ -80,9 +80,9 @@ joined_fits (call.KeyWanted track ∷ past) n j all e = joined_fits past n j all
 joined_fits (call.Plead subscriber ∷ past) n j all e = joined_fits past n j all.1 e
 joined_fits (call.Why subscriber number ∷ past) n j all e = joined_fits past n j all.1 e
 
--- ---- of a layered track
+-- ---- for a layered track
 
--- no complaint about what is sent on a track with this history, nor about any prefix of it
+-- a strict receiver has no complaint about the packets sent on a track with this history, nor about any prefix of them
 pleased : (id n : ℕ) (to : Subscriber) (entries : List Entry) → to.ssrc < 2 ^ 32 → AllByRecursion (ItemHas CameIn) (items_of entries)
     → (sends queued : List (List ℕ)) → sends ++ queued ≡ outgoing_bytes (Layered id) to (timeline_as (Layered id) n entries)
     → complaint (format_of id) (map read_packet sends) ≡ None
@@ -93,14 +93,14 @@ pleased id n to entries fits came sends queued is =
     ap (complaint (format_of id)) (front_read out sends f (outgoing_read (Layered id) to events fits (timeline_came (Layered id) n entries came)))
     ∙ outgoing_never_complains (format_of id) (sent (Layered id)) n entries to f.front f.rest (formats_read id) (sent_keeps_whole id) f.whole
 
--- what was taken is a prefix of it
+-- the packets taken are a prefix of them
 taken_front : (kind : Kind) (to : Subscriber) (events : List Happened)
     → taken_bytes kind to events ++ map bytes_of (drop (takes_of events) (outgoing (sent kind) to events)) ≡ outgoing_bytes kind to events
 taken_front kind to events =
     let out : List Packet = outgoing (sent kind) to events in
     sym (map-append bytes_of (take (takes_of events) out) (drop (takes_of events) out)) ∙ ap (map bytes_of) (take-append-drop (takes_of events) out)
 
--- whatever well-formed calls there were, accepted or not: no complaint about what was taken
+-- for any well-formed calls, accepted or not: no complaint about the packets taken
 pub taken_pleases : (past : List Call) → AreWellFormed past → (id n : ℕ) (j : Joined) → joined n past ≡ Some j
     → complaint (format_of id) (map read_packet (taken_bytes (Layered id) (subscriber_by j) (timeline_as (Layered id) n (entries_of j.track past)))) ≡ None
 taken_pleases past well id n j is =
@@ -163,7 +163,7 @@ causes past id n j is kind = record {
     answers : (m : ℕ) → answer past (call.Why n m) ≡ told (judged (verdicts j.wish events) m)
     answers m = ap (λ (o : Option Joined). of_subscriber o (λ i. told (judged (verdicts_of n i past) m))) is
 
--- ---- of every track
+-- ---- for every track
 
 numbered_by : (past : List Call) → AreWellFormed past → AreAccepted past → (n : ℕ) (j : Joined) → joined n past ≡ Some j → IsNumbered n j past
 numbered_by past well all n j is = record {
@@ -200,7 +200,7 @@ numbered_by past well all n j is = record {
     resends : (sequence : ℕ) → answer past (call.Resend n sequence) ≡ resend_answer kind to events sequence
     resends sequence = ap (λ (o : Option Joined). of_subscriber o (λ i. resend_answer (kind_of i.track past) (subscriber_by i) (events_for n i past) sequence)) is
 
--- ---- of all
+-- ---- for all subscribers
 
 headline_of : (past : List Call) → AreWellFormed past → AreAccepted past → Headline past
 headline_of past well all = record {

@@ -25,7 +25,7 @@ use Rattle.frame_cache.specs.declared.cache.FrameCache.{FrameCache}
 use Rattle.room_core.proofs.Rings.{length-pushed, pushed_both, pushed_is, pushed_more, pushed_none, take_next}
 use Rattle.room_core.proofs.SentMarked.{length-marked, marked_at}
 
--- what the packets of a frame are queued as, but for their numbers
+-- the packets in the form in which a frame's packets are queued, except for their numbers
 abbrev pub to_queue : Bool → List (List ℕ) → List Packet
 to_queue top packets = marked top (map packet_of packets)
 
@@ -38,7 +38,7 @@ queued_at top packets i bytes at =
     marked_at top (map packet_of packets) i (packet_of bytes) (slice_get-map packet_of packets i ∙ ap (option_map packet_of) at)
     ∙ ap (λ (n : ℕ). Some (record (packet_of bytes) { marker = top && eqb (i + 1) n || (packet_of bytes).marker })) (length-map packets packet_of)
 
--- the packets from a place on
+-- the packets from an index on
 abbrev pub to_queue_from : ℕ → Bool → List (List ℕ) → List Packet
 to_queue_from from top packets = drop from (to_queue top packets)
 
@@ -55,13 +55,13 @@ queued_behind : (from : ℕ) (top : Bool) (packets : List (List ℕ)) (i : ℕ) 
     → slice_get (to_queue_from from top packets) (i - from) ≡ Some p
 queued_behind from top packets i p le at = behind from (i - from) i (to_queue top packets) (omega (arith, le)) ∙ at
 
--- none is queued yet
+-- no packet is queued yet
 pub push_begins : (from : ℕ) (top : Bool) (packets : List (List ℕ)) (ring : Ring) → ring ≡ pushed_all (take (from - from) (to_queue_from from top packets)) ring
 push_begins from top packets ring =
     let none : 0 ≡ from - from = omega arith in
     sym (pushed_none ring) ∙ ap (λ (n : ℕ). pushed_all (take n (to_queue_from from top packets)) ring) none
 
--- one more packet of the frame is queued
+-- one more packet of the frame was queued
 pub push_next : (bytes : List ℕ) (packets : List (List ℕ)) (top : Bool) (from i : ℕ) (ring ring' first : Ring) → 12 ≤ length bytes → from ≤ i
     → slice_get packets i ≡ Some bytes
     → ring ≡ pushed_all (take (i - from) (to_queue_from from top packets)) first
@@ -76,7 +76,7 @@ push_next bytes packets top from i ring ring' first long le at so_far now =
     ∙ ap (λ (xs : List Packet). pushed_all xs first) (sym (take_next (i - from) ps p (queued_behind from top packets i p le (queued_at top packets i bytes at))))
     ∙ ap (λ (n : ℕ). pushed_all (take n ps) first) one
 
--- there is capacity for one more
+-- there is capacity for one more packet
 pub push_room : (packets : List (List ℕ)) (top : Bool) (from i : ℕ) (ring first : Ring) → from ≤ i → i < length packets → length first.queued + length packets ≤ 512 + from
     → ring ≡ pushed_all (take (i - from) (to_queue_from from top packets)) first → length ring.queued < 512
 push_room packets top from i ring first le lt room so_far =
@@ -85,15 +85,15 @@ push_room packets top from i ring first le lt room so_far =
     let few : length (take (i - from) (to_queue_from from top packets)) ≤ i - from = omega (arith, length-take (i - from) (to_queue_from from top packets)) in
     omega arith
 
--- all of them are queued
+-- all packets are queued
 pub push_ends : (packets : List (List ℕ)) (top : Bool) (from i : ℕ) (ring first : Ring) → length packets ≤ i
     → ring ≡ pushed_all (take (i - from) (to_queue_from from top packets)) first → ring ≡ pushed_all (to_queue_from from top packets) first
 push_ends packets top from i ring first all so_far =
     so_far ∙ ap (λ (xs : List Packet). pushed_all xs first) (take_all (i - from) (to_queue_from from top packets) (omega (arith, length-to_queue_from from top packets, all)))
 
--- ---- the first one apart
+-- ---- the first packet separately
 
--- the first packet with its mark, and then those behind it
+-- the first packet with its marker, and then the packets after it
 first_apart : (id : ℕ) (force : Option TemplateStructure) (mask : ℕ) (top : Bool) (p : Packet) (ps : List Packet)
     → marked top (remasked_first id force mask (p ∷ ps))
     ≡ remasked_packet id force mask (record p { marker = top && eqb (length (p ∷ ps)) 1 || p.marker }) ∷ drop 1 (marked top (p ∷ ps))
@@ -116,7 +116,7 @@ plain_apart top p (q ∷ ps) =
     none true last e = ap (λ (b : Bool). b || p.marker) e
     none false last e = refl
 
--- one packet with its mark
+-- one packet with its marker
 abbrev pub first_of : Bool → ℕ → List ℕ → Packet
 first_of top count bytes = record (packet_of bytes) { marker = top && eqb count 1 || (packet_of bytes).marker }
 
@@ -129,7 +129,7 @@ either_apart (Some l) mask top bytes rest =
     first_apart l.id l.table.structure mask top (packet_of bytes) (map packet_of rest)
     ∙ ap (λ (n : ℕ). remasked_packet l.id l.table.structure mask (record (packet_of bytes) { marker = top && eqb (suc n) 1 || (packet_of bytes).marker }) ∷ to_queue_from 1 top (bytes ∷ rest)) (length-map rest packet_of)
 
--- the first packet is queued, and then those behind it
+-- the first packet is queued, and then the packets after it
 pub push_first_ends : (layers : Option Layers) (mask : ℕ) (top : Bool) (packets : List (List ℕ)) (bytes : List ℕ) (first mid last : Ring) → slice_get packets 0 ≡ Some bytes
     → mid ≡ pushed_all (remasked_by layers mask (first_of top (length packets) bytes ∷ [])) first → last ≡ pushed_all (to_queue_from 1 top packets) mid
     → last ≡ pushed_all (marked top (remasked_by layers mask (map packet_of packets))) first
@@ -140,14 +140,14 @@ push_first_ends layers mask top (b ∷ rest) bytes first mid last at one more =
     ∙ sym (pushed_both (remasked_by layers mask (first_of top (length (b ∷ rest)) b ∷ [])) (to_queue_from 1 top (b ∷ rest)) first)
     ∙ ap (λ (ps : List Packet). pushed_all ps first) (sym (either_apart layers mask top b rest))
 
--- no packet, no change
+-- without a packet nothing changes
 pub push_first_none : (layers : Option Layers) (mask : ℕ) (top : Bool) (packets : List (List ℕ)) (ring : Ring) → length packets ≡ 0
     → ring ≡ pushed_all (marked top (remasked_by layers mask (map packet_of packets))) ring
 push_first_none None mask top [] ring none = sym (pushed_none ring)
 push_first_none (Some l) mask top [] ring none = sym (pushed_none ring)
 push_first_none layers mask top (b ∷ rest) ring none = absurd (omega (arith, none))
 
--- ---- whether it tells
+-- ---- whether the first packet carries a mask or structure
 
 pub first_tells : (l : Layers) (packets : List (List ℕ)) (bytes : List ℕ) → slice_get packets 0 ≡ Some bytes → 12 ≤ length bytes → tells l.id bytes ≡ tells_first l.id (map packet_of packets)
 first_tells l [] bytes at long = absurd cc
@@ -158,7 +158,7 @@ pub tells_said : (layers : Option Layers) (id : ℕ) (packets : List (List ℕ))
 tells_said None id packets bytes is at long = absurd cc
 tells_said (Some l) id packets bytes is at long = let same : id ≡ l.id = cc in ap (λ (n : ℕ). tells n bytes) same ∙ first_tells l packets bytes at long
 
--- ---- a packet with a mask, where it can be remasked
+-- ---- a packet with a mask, if it can be remasked
 
 pub telling_reads : (id mask : ℕ) (force : Option TemplateStructure) (bytes : List ℕ) → first_fault bytes ≡ None → first_fault (remasked_bytes id force mask bytes) ≡ None
 telling_reads id mask force bytes reads = by (remasked id force mask bytes) refl
@@ -181,7 +181,7 @@ telling_pushed id mask force bytes marker ring ring' reads now =
     now ∙ pushed_is (remasked_bytes id force mask bytes) marker ring (header_there (remasked_bytes id force mask bytes) (telling_reads id mask force bytes reads))
     ∙ ap (λ (p : Packet). pushed_all (record p { marker = marker } ∷ []) ring) (rests_remasked id mask force bytes (header_there bytes reads))
 
--- ---- what is kept of the frame in hand
+-- ---- what is stored of the current frame
 
 pub keeps_nothing : (layers : Option Layers) (packets : List (List ℕ)) (told : FrameCache) → told.mask ≡ None → TellsFirst layers packets told
 keeps_nothing None packets told none = tt
@@ -217,7 +217,7 @@ keeps_on (Some l) id force bytes told is force_is kept =
     subst (λ (n : ℕ). CarriesMask n l.table.structure bytes told.mask told.packet) same
     (subst (λ (f : Option TemplateStructure). CarriesMask id f bytes told.mask told.packet) force_is kept)
 
--- on a plain track it is as it was
+-- on a plain track it is unchanged
 pub none_told : (layers : Option Layers) (mask : ℕ) (ps : List Packet) → None ≡ option_map id_of layers → remasked_by layers mask ps ≡ ps
 none_told None mask ps is = refl
 none_told (Some l) mask ps is = absurd (let none : None ≡ Some l.id = is in cc)

@@ -1,4 +1,4 @@
--- What is made ready for a join changes no more of its track than its cache.
+-- What is prepared for a join changes nothing of its track except the cache.
 use Rattle.std.proofs.Common.{◌≡◌, ℕ, Bool, true, false, cond, List, refl, sym, ap, subst, ◌∙◌, Option, Some, None, nat_eq}
 use Rattle.std.proofs.lemmas.Bool.{eqb-true}
 use Rattle.indexmap.specs.IndexMap.{WritesThrough, get, index_map_len}

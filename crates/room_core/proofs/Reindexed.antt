@@ -1,4 +1,4 @@
--- What a call leaves of the places of each track.
+-- The effect of a call on the places of each track.
 use Rattle.std.proofs.Common.{◌≡◌, ◌≢◌, ◌<◌, ◌≤◌, ◌+◌, ◌-◌, ℕ, zero, suc, Bool, true, false, cond, List, [], ◌∷◌, length, refl, sym, ap, subst, ◌∙◌, arith, inl, inr, ◌⊎◌, Option, Some, None, slice_get, get_or, take, position, nat_eq, not}
 use Rattle.std.specs.Prelude.{slice_set}
 use Rattle.std.proofs.lemmas.Bool.{cases_eq, eqb-true}
@@ -18,7 +18,7 @@ use Rattle.room_core.proofs.Places.{written_at, written_by_key}
 
 -- ---- two tables of tracks
 
--- what is found in the second has an entry in the first
+-- an entry found in the second table has an entry in the first
 pub back : (R : LiveTrack → LiveTrack → Type 0) (o p : Option LiveTrack) (t : LiveTrack) → Both R o p → p ≡ Some t → (s : LiveTrack) × (o ≡ Some s) × R s t
 back R None None t h e = absurd (let none : None ≡ Some t = e in cc)
 back R None (Some b) t h e = absurd h
@@ -34,7 +34,7 @@ weaker R S (Some a) (Some b) w h = w a b h
 pub same_but : (place : ℕ) (f g : ℕ → Option LiveTrack) → AreSameBut place f g → AreSame f g
 same_but place f g h n = weaker (IsTrackBut place) IsSameTrack (f n) (g n) (λ a b r. r.same) (h n)
 
--- one of them is written, and its places stay the same
+-- one entry is written, and its places stay the same
 written_keeps : (k : ℕ) (f g : ℕ → Option LiveTrack) (known now : LiveTrack) → Some known ≡ f k → ((n : ℕ) → g n ≡ cond (nat_eq k n) (Some now) (f n))
     → now.places ≡ known.places → (n : ℕ) (t : LiveTrack) → g n ≡ Some t → (s : LiveTrack) × (f n ≡ Some s) × (t.places ≡ s.places)
 written_keeps k f g known now found is same n t e = go (nat_eq k n) refl (sym (is n) ∙ e)
@@ -68,7 +68,7 @@ track_got m m' k known now on highest found writes same h =
     indexed_by (get nat_eq m) (get nat_eq m') on on highest
     (written_keeps k (get nat_eq m) (get nat_eq m') known now found (written_by_key k m m' known now found writes).found same) refl h
 
--- the same if the table of subscribers got capacity meanwhile
+-- the same if the table of subscribers got more capacity meanwhile
 pub track_got_reserved : {S : Type 0} (m m' : IndexMap ℕ LiveTrack S) (k : ℕ) (known now : LiveTrack) (es es' : List (ℕ × LiveSubscriber)) (highest : ℕ)
     → Some known ≡ get nat_eq m k → WritesThrough nat_eq (nat_eq k) m now m' → now.places ≡ known.places → es' ≡ es
     → IsIndexed (get nat_eq m) (tracks_of es) highest → IsIndexed (get nat_eq m') (tracks_of es') highest
@@ -99,7 +99,7 @@ pub subscriber_written : (f : ℕ → Option LiveTrack) (es es' : List (ℕ × L
 subscriber_written f es es' k highest v w is found same h =
     subst (λ (on : List ℕ). IsIndexed f on highest) (sym (ap tracks_of is ∙ tracks_written k es v w found same)) h
 
--- ---- a subscriber comes
+-- ---- a subscriber joins
 
 inserted_at : (k : ℕ) (es : List (ℕ × LiveSubscriber)) (live : LiveSubscriber) (q n : ℕ) → slice_get (tracks_of (insert_entry nat_eq es k live)) q ≡ Some n
     → ((q ≡ position_or_len (nat_eq k) (keys_of es)) × (n ≡ live.track)) ⊎ ((q ≢ position_or_len (nat_eq k) (keys_of es)) × (slice_get (tracks_of es) q ≡ Some n))
@@ -140,7 +140,7 @@ joined_indexed f g es es' k place highest live known place_is is found changed p
       live = λ n t there. let s = back (IsTrackBut place) (f n) (g n) t (changed n) there in h.live n s.0 s.1;
     }
 
--- ---- a subscriber goes
+-- ---- a subscriber leaves
 
 entry_at : (es : List (ℕ × LiveSubscriber)) (q n : ℕ) → slice_get (tracks_of es) q ≡ Some n → (e : ℕ × LiveSubscriber) × (slice_get es q ≡ Some e) × (e.1.track ≡ n)
 entry_at [] q n at = absurd (let none : None ≡ Some n = at in cc)
@@ -164,7 +164,7 @@ set_at (f ∷ es) (suc i) v (suc q) e at = elim (set_at es i v q e at) [
   | inr h ↦ inr ((λ same. h.0 (omega (arith, same))), h.1)
 ]
 
--- what is at a place once one was removed was there before, or was last
+-- the entry at a place after a removal was there before, or was the last one
 removed_at : (k place : ℕ) (es : List (ℕ × LiveSubscriber)) (q n : ℕ) → position (nat_eq k) (keys_of es) ≡ Some place
     → slice_get (tracks_of (swap_remove_entry (nat_eq k) es)) q ≡ Some n → (p : ℕ) × (slice_get (tracks_of es) p ≡ Some n) × (q ≢ place → p ≡ q)
 removed_at k place [] q n pos on = absurd (let none : None ≡ Some n = on in cc)
@@ -200,7 +200,7 @@ left_indexed f f' g es es' k place highest pos is changed same moved h =
           h.live n s.0 s.1;
     }
 
--- the subscriber that was last has the place at which one was removed
+-- the subscriber that was last now has the place of the removed one
 pub moved_all : (f f' g : ℕ → Option LiveTrack) (on : List ℕ) (number place last : ℕ) → slice_get on place ≡ Some number → ((q n : ℕ) → slice_get on q ≡ Some n → q < last)
     → AreSameBut last f f' → AreSameBut place f' g → ((t : LiveTrack) → g number ≡ Some t → has_place t.places place ≡ true)
     → HaveAllBut place f on → HaveAll g on
@@ -219,6 +219,6 @@ moved_all f f' g on number place last moved within taken put has h n t there q a
 pub within_tracks : (es : List (ℕ × LiveSubscriber)) (q n : ℕ) → slice_get (tracks_of es) q ≡ Some n → q < length es
 within_tracks es q n at = let e = entry_at es q n at in slice_get_within es q e.0 e.1
 
--- if no subscriber is at the place, none has moved
+-- if no subscriber is at the place, none was moved
 pub none_moved : (f : ℕ → Option LiveTrack) (es : List (ℕ × LiveSubscriber)) (place : ℕ) → (place < length es → ⊥) → HaveAllBut place f (tracks_of es) → HaveAll f (tracks_of es)
 none_moved f es place behind h n t there q at = h n t there q (λ same. behind (subst (λ (i : ℕ). i < length es) same (within_tracks es q n at))) at

@@ -1,4 +1,4 @@
--- What a packet or a tick of a track does to a room, whatever calls were accepted before.
+-- The effect of a packet or a tick of a track on a room, whatever calls were accepted before.
 use Rattle.std.proofs.Common.{◌≡◌, ◌≤◌, ℕ, Bool, true, false, cond, ◌&&◌, List, [], ◌∷◌, ◌++◌, refl, sym, ap, subst, ◌∙◌, Option, Some, None, eqb, nat_eq}
 use Rattle.std.specs.Prelude.{not}
 use Rattle.std.proofs.lemmas.Bool.{eqb-true, eqb-false, eq-eqb}
@@ -39,7 +39,7 @@ use Rattle.room_core.proofs.Places.{IsWritten}
 use Rattle.room_core.proofs.TableSteps.{table_after, table_mapped}
 use Rattle.room_core.proofs.Stepping.{brought_at, brought_waits, formats_read, kind_stays, order_at as order_is}
 
--- ---- what the history tells after it
+-- ---- the history after it
 
 pub record IsRelease (track : ℕ) (event : Event) (past next : List Call) : Type 0 where
   pub published_is : (n : ℕ) → published n next ≡ published n past
@@ -94,7 +94,7 @@ and_not_false : (p : Bool) → p ≡ (p && not false)
 and_not_false true = refl
 and_not_false false = refl
 
--- of every other track nothing changes
+-- for every other track nothing changes
 other_track : (track : ℕ) (event : Event) (past next : List Call) → IsRelease track event past next → (n : ℕ) (a : LiveTrack) (p : Published) → eqb track n ≡ false
     → IsTrackAfter past n a p → IsTrackAfter next n a p
 other_track track event past next r n a p e h =
@@ -115,7 +115,7 @@ other_track track event past next r n a p e h =
       pleaded_is = h.pleaded_is ∙ sym pleas;
     }
 
--- what the event released, told by the pipeline
+-- the items that the event released, as the pipeline has them
 released_is : (track : ℕ) (event : Event) (past : List Call) (known : LiveTrack) (p : Published) (mid : Seen) → IsTrackAfter past track known p
     → IsBrought event known.pipeline.value mid → known.pipeline.value.window.waiting ≡ [] → and_pieces mid.window.waiting [] ≡ released track past event
 released_is track event past known p mid h brought idle =
@@ -123,7 +123,7 @@ released_is track event past known p mid h brought idle =
     ∙ ap (λ (o : Order). and_pieces (added known.pipeline.value.window.hold o event) []) (order_is (events_of track past) known.pipeline.value (items_of (entries_of track past)) h.at)
     ∙ ap (λ (k : ℕ). and_pieces (added k (order_of k (events_of track past)) event) []) h.hold_is
 
--- and what was processed
+-- and the items that were processed
 works_released : (track : ℕ) (event : Event) (past : List Call) (known now : LiveTrack) (p : Published) (mid : Seen) (f g : ℕ → Option LiveSubscriber) → IsTrackAfter past track known p
     → IsBrought event known.pipeline.value mid → known.pipeline.value.window.waiting ≡ [] → WorkedOff mid now.pipeline.value track f g known.pleaded now.pleaded
     → WorksOffFrom (event ∷ events_of track past) (kind_of track past) now.pipeline.value track f g known.pleaded now.pleaded (items_of (entries_of track past)) [] (released track past event)
@@ -249,7 +249,7 @@ released_after old new past next track event known now mid r h found tables coun
       highest_subscriber_is = highest' ∙ h.highest_subscriber_is ∙ sym r.highest_subscriber_is;
     }
 
--- the reply is that of the history too
+-- the reply is also that of the history
 pub release_does : (old new : Content) (call : Call) (track : ℕ) (event : Event) (known now : LiveTrack) (mid : Seen) → ((past : List Call) → IsRelease track event past (call ∷ past))
     → Some known ≡ get nat_eq old.tracks track → IsWritten track old.tracks new.tracks now → now.kind ≡ known.kind
     → IsBrought event known.pipeline.value mid → known.pipeline.value.window.waiting ≡ []

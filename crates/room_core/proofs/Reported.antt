@@ -1,4 +1,4 @@
--- What a feed has counted is what its timeline says.
+-- The counts of a feed are those of its timeline.
 use Rattle.std.proofs.Common.{◌≡◌, ◌+◌, ℕ, List, length, length-drop, ap, ap₂, subst, sym, ◌∙◌, arith, Option, Some, Ok, Result, nat_eq}
 use Rattle.std.specs.Prelude.{min}
 use Rattle.std.proofs.lemmas.List.{length-map}

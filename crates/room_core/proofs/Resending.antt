@@ -1,4 +1,4 @@
--- What is resent is one of the last packets that were taken, under its own number.
+-- A resend returns one of the last packets that were taken, under its own number.
 use Rattle.std.proofs.Common.{◌≡◌, inl, inr, ◌≤◌, ◌<◌, ◌+◌, ◌-◌, ℕ, zero, suc, List, [], ◌∷◌, map, take, drop, length, refl, sym, ap, subst, ◌∙◌, arith, Option, Some, None, length-drop}
 use Rattle.std.specs.Prelude.{◌==◌, ◌↔◌}
 use Rattle.std.specs.List.{AllByRecursion, find}
@@ -53,7 +53,7 @@ last_map n ps = ap (λ (k : ℕ). drop (k - n) (map bytes_of ps)) (length-map ps
 
 -- ---- numbers
 
--- a packet among numbered ones, and its place
+-- a packet among numbered packets, and its place
 record IsAtPlace (p : Packet) (n ssrc : ℕ) (ps : List Packet) : Type 0 where
   place : ℕ
   was : Packet
@@ -75,7 +75,7 @@ place_of p n ssrc (q ∷ ps) (inr m) =
       there = r.there;
     }
 
--- of fewer than 65,536 packets each is found under its number
+-- among fewer than 65,536 packets each is found under its number
 own_number : (p : Packet) (n ssrc : ℕ) (ps : List Packet) → length ps ≤ 1024 → IsMember p (numbered n ssrc ps)
     → find (λ x. x.sequence_number == p.sequence_number) (numbered n ssrc ps) ≡ Some p
 own_number p n ssrc ps few m =

@@ -1,4 +1,4 @@
--- What is sent to a subscriber, as its ring has it: more is sent, one packet after another is queued, and the oldest is taken.
+-- The packets sent to a subscriber, as its ring has them: packets are added, queued one after another, and the oldest is taken.
 use Rattle.std.proofs.Common.{◌≡◌, ◌≤◌, ℕ, suc, ◌+◌, ◌-◌, ◌%◌, Bool, List, [], ◌∷◌, ◌++◌, length, map, take, drop, refl, sym, ap, ◌∙◌, arith, Some, length-append, append_assoc, append-nil, slice_get}
 use Rattle.std.proofs.lemmas.List.{take-append-le, drop-append-le, drop-drop, drop-map, length-drop, length-take-le, length-map, map-append}
 use Rattle.forwarding_model.specs.Lists.{last_part}
@@ -12,7 +12,7 @@ use Rattle.out_ring.specs.Ring.{Ring, Sent, next_queued, pushed, taken}
 use Rattle.out_ring.proofs.Lists.{first_item, last_part_again, take_one_more}
 use Rattle.room_core.specs.Follows.{IsRingOf, pushed_all, sent_as}
 
--- ---- more goes out
+-- ---- more packets are sent
 
 -- numbers are modulo 65,536
 numbered_same : (n m ssrc : ℕ) (ps : List Packet) → n % 65536 ≡ m % 65536 → numbered n ssrc ps ≡ numbered m ssrc ps
@@ -25,7 +25,7 @@ numbered_same n m ssrc (p ∷ ps) e =
 same_number : (first t n size : ℕ) → t ≤ size → n ≡ (first + t) % 65536 → (n + (size - t)) % 65536 ≡ (first + size) % 65536
 same_number first t n size fit e = omega (arith, fit, e)
 
--- these packets are queued behind all that is sent so far
+-- these packets are queued after all packets sent so far
 pub ring_grows : (ring : Ring) (to : Subscriber) (t : ℕ) (out ps : List Packet) → t ≤ length out → IsRingOf ring to t out
     → IsRingOf (pushed_all ps ring) to t (out ++ numbered (to.first + length out) to.ssrc ps)
 ring_grows ring to t out ps fit h =
@@ -62,7 +62,7 @@ length-pushed ps ring =
     length-append ring.queued (map bytes_of (numbered n ring.ssrc ps))
     ∙ ap (λ (k : ℕ). length ring.queued + k) (length-map (numbered n ring.ssrc ps) bytes_of ∙ length-numbered n ring.ssrc ps)
 
--- some, and then others
+-- some packets, and then others
 pub pushed_both : (xs ys : List Packet) (ring : Ring) → pushed_all (xs ++ ys) ring ≡ pushed_all ys (pushed_all xs ring)
 pushed_both xs ys ring =
     let n : ℕ = ring.next + length ring.queued in

@@ -1,5 +1,5 @@
--- What is sent of a frame reads as the frame that it was, as so many packets, each of them RTP. A change of what is sent proves these facts
--- anew, beside those of `SentMarked`, and nothing else of the headline.
+-- The sent packets of a frame read as that frame. Their number is that of the frame's packets, and each is valid RTP. A change of
+-- what is sent needs new proofs of these facts and of those of `SentMarked`, and of nothing else in the headline.
 use Rattle.std.proofs.Common.{◌≡◌, ◌<◌, ◌^◌, ℕ, Bool, true, false, ◌||◌, List, [], ◌∷◌, map, Option, None, Some, refl, sym, ap, subst, ◌∙◌}
 use Rattle.std.specs.List.{AllByRecursion}
 use Rattle.sfu_base.specs.declared.call.Kind.{Kind}
@@ -75,7 +75,7 @@ sent_keeps_whole id = subst (λ (format : Format TemplateStructure). KeepsWhole 
 
 -- ---- and each packet is RTP
 
--- the rest of the packet is that of bytes that RTP reads
+-- the rest of the packet is that of valid RTP
 pub record IsSendable (p : Packet) : Type 0 where
   pub bytes : List ℕ
   pub reads : first_fault bytes ≡ None
@@ -87,7 +87,7 @@ marked_sendable is_last (p ∷ []) all = (record { bytes = all.0.bytes; reads = 
 marked_sendable is_last (p ∷ q ∷ ps) all =
     (record { bytes = all.0.bytes; reads = all.0.reads; rest_is = ap (λ (r : Packet). r.rest) all.0.is }, marked_sendable is_last (q ∷ ps) all.1)
 
--- a packet with another mask is as one that came in so
+-- a packet with another mask is like one that came with this mask
 remasked_came : (id mask : ℕ) (force : Option TemplateStructure) (p : Packet) → CameIn p → CameIn (remasked_packet id force mask p)
 remasked_came id mask force p came = record {
   bytes = remasked_bytes id force mask came.bytes;
@@ -107,7 +107,7 @@ told_came id frame true mask all = go frame.packets all
     go [] all = tt
     go (p ∷ ps) all = (remasked_came id mask (Some frame.structure) p all.0, all.1)
 
--- what is sent of packets that came in is RTP again
+-- the sent form of packets that came in is again valid RTP
 pub sent_sendable : (kind : Kind) (frame : Frame TemplateStructure) (target : CurrentTarget) → AllByRecursion CameIn frame.packets → AllByRecursion IsSendable (sent kind frame target)
 unfolding layered_sent
 sent_sendable Plain frame target all = marked_sendable (is_top_layer frame.meaning target) frame.packets all

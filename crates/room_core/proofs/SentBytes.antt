@@ -1,4 +1,4 @@
--- What is sent is read, as bytes, as the packets of the model: sequence number, SSRC and marker are written over a packet that RTP reads.
+-- The sent packets, read as bytes, are the packets of the model: sequence number, SSRC and marker are written over a packet of valid RTP.
 use Rattle.std.proofs.Common.{◌≡◌, ◌≤◌, ◌<◌, ◌+◌, ◌%◌, ◌^◌, ℕ, Bool, true, false, cond, List, [], ◌∷◌, ◌++◌, length, map, drop, refl, sym, ap, ap₂, subst, ◌∙◌, Option, Some, arith}
 use Rattle.std.specs.List.{AllByRecursion}
 use Rattle.sfu_base.specs.declared.call.Kind.{Kind}
@@ -21,7 +21,7 @@ use Rattle.room_core.specs.SentBytes.{AreInOrder}
 use Rattle.room_core.proofs.CameIn.{CameIn, HasCome}
 use Rattle.room_core.proofs.Senders.{IsSendable, sent_sendable}
 
--- ---- what is forwarded
+-- ---- forwarded packets
 
 came_sendable : (p : Packet) → CameIn p → IsSendable p
 came_sendable p came = record { bytes = came.bytes; reads = came.reads; rest_is = ap (λ (q : Packet). q.rest) came.is }
@@ -44,9 +44,9 @@ forwarded_sendable kind wish (PlainPacket packet ∷ past) all =
 forwarded_sendable kind wish (WishChange changed ∷ past) all = forwarded_sendable kind wish past all.1
 forwarded_sendable kind wish (Take ∷ past) all = forwarded_sendable kind wish past all.1
 
--- ---- and its bytes
+-- ---- and their bytes
 
--- the packet's bytes are read as it
+-- the packet's bytes are read as the packet
 pub record ReadsBack (p : Packet) : Type 0 where
   pub read : read_packet (bytes_of p) ≡ Some p
   pub number : sequence_of (bytes_of p) ≡ p.sequence_number
@@ -72,17 +72,17 @@ numbered_read : (n ssrc : ℕ) (ps : List Packet) → ssrc < 2 ^ 32 → AllByRec
 numbered_read n ssrc [] fits all = tt
 numbered_read n ssrc (p ∷ ps) fits all = (reads_back (n % 65536) ssrc p.marker p (omega arith) fits all.0, numbered_read (n + 1) ssrc ps fits all.1)
 
--- all that is sent is read back
+-- all sent packets are read back
 pub outgoing_read : (kind : Kind) (to : Subscriber) (events : List Happened) → to.ssrc < 2 ^ 32 → AllByRecursion HasCome events → AllByRecursion ReadsBack (outgoing (sent kind) to events)
 outgoing_read kind to events fits all = numbered_read to.first to.ssrc (forwarded (sent kind) to.wish events) fits (forwarded_sendable kind to.wish events all)
 
--- ---- fronts
+-- ---- prefixes
 
 pub all_read : (ps : List Packet) → AllByRecursion ReadsBack ps → map read_packet (map bytes_of ps) ≡ map Some ps
 all_read [] all = refl
 all_read (p ∷ ps) all = ap₂ (λ (o : Option Packet) (os : List (Option Packet)). o ∷ os) all.0.read (all_read ps all.1)
 
--- a prefix of the bytes is the bytes of a prefix
+-- a prefix of the bytes has the bytes of a prefix
 pub record IsFrontOf (ps : List Packet) (sends : List (List ℕ)) : Type 0 where
   pub front : List Packet
   pub rest : List Packet

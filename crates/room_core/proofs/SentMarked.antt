@@ -1,5 +1,5 @@
--- What is sent of a frame: each packet, the first perhaps with another mask, and the last one marked where the frame ends the target's layer. This is the one file that looks
--- into what is sent and into its marks; the other proofs have these facts alone.
+-- The sent packets of a frame: the first may have another mask, and the last is marked if the frame ends the target's
+-- layer. Only this file unfolds the definitions of what is sent and of its marks; the other proofs use these facts.
 use Rattle.std.proofs.Common.{◌≡◌, ◌≢◌, ℕ, zero, suc, ◌+◌, Bool, true, false, ◌&&◌, ◌||◌, List, [], ◌∷◌, length, map, refl, sym, ap, ◌∙◌, arith, Option, None, Some, slice_get, eqb}
 use Rattle.std.specs.Prelude.{if◌then◌else◌}
 use Rattle.std.proofs.lemmas.Bool.Decides.{nat_tests}
@@ -21,7 +21,7 @@ use Rattle.room_core.specs.Sent.{layered_sent, opens, remasked_first, sent, tell
 use Rattle.target_selector.specs.Masks.{mask_for}
 use Rattle.room_core.specs.Stepping.{kind_by}
 
--- the frame with the packets that are sent of it, but for the mark
+-- the frame with its sent packets, except for the marker
 abbrev pub with_told : ℕ → Frame TemplateStructure → Bool → ℕ → Frame TemplateStructure
 with_told id frame tells mask = record frame { packets = if tells then remasked_first id (Some frame.structure) mask frame.packets else frame.packets }
 
@@ -33,7 +33,7 @@ length-told id frame true mask = go frame.packets
     go [] = refl
     go (p ∷ ps) = refl
 
--- a frame is sent in as many packets as it has
+-- the number of sent packets is that of the frame's packets
 pub sent_keeps_count : (kind : Kind) → KeepsCount (sent kind)
 unfolding layered_sent
 sent_keeps_count Plain frame target = marked_keeps_count frame target
@@ -42,11 +42,11 @@ sent_keeps_count (Layered id) frame target =
     let mask = mask_for frame.meaning (open_target target) in
     marked_keeps_count (with_told id frame tells mask) target ∙ length-told id frame tells mask
 
--- what is queued of a frame, if the first packet gets another mask or if none does
+-- the queued packets of a frame, if the first packet gets another mask or if none does
 abbrev pub queued_by : Bool → Option Layers → ℕ → List (List ℕ) → List Packet
 queued_by tells layers mask packets = if tells then remasked_by layers mask (map packet_of packets) else map packet_of packets
 
--- the same packets, where the mask and the question are those of the definition
+-- the same packets, if the mask and the test are those of the definition
 same_told : (layers : Option Layers) (id : ℕ) (structure : TemplateStructure) (tells : Bool) (mask : ℕ) (meaning : FrameMeaning) (packets : List (List ℕ))
     → kind_by layers ≡ Layered id → structure_in layers ≡ Some structure → queued_by tells layers mask packets ≡ (with_told id (frame_by meaning structure packets) tells mask).packets
 same_told None id structure tells mask meaning packets kind force = absurd cc
@@ -68,7 +68,7 @@ same_mask : (id : ℕ) (frame : Frame TemplateStructure) (tells : Bool) (mask ot
 same_mask id frame true mask other same = ap (with_told id frame true) (same refl)
 same_mask id frame false mask other same = refl
 
--- the packets that are queued of a frame are those that are sent of it
+-- the queued packets of a frame are its sent packets
 pub sends_frame : (kind : Kind) (old new : Ring) (meaning : FrameMeaning) (structure : TemplateStructure) (track : Seen) (is_top told : Bool) (mask : ℕ) (target : CurrentTarget)
     → kind_by track.layers ≡ kind → structure_in track.layers ≡ Some structure
     → is_top ≡ is_top_layer meaning target → told ≡ (opens meaning target || tells_by track.layers track.packets) → (told ≡ true → mask ≡ mask_for meaning (open_target target))
@@ -88,14 +88,14 @@ sends_frame (Layered id) old new meaning structure track is_top told mask target
     ∙ ap (λ (b : Bool). pushed_all (marked is_top (with_told id frame b right).packets) old) asked
     ∙ ap (λ (b : Bool). pushed_all (marked b (with_told id frame (opens meaning target || tells_first id frame.packets) right).packets) old) top
 
--- ---- marks
+-- ---- markers
 
 pub length-marked : (is_last : Bool) (ps : List Packet) → length (marked is_last ps) ≡ length ps
 length-marked is_last [] = refl
 length-marked is_last (p ∷ []) = refl
 length-marked is_last (p ∷ q ∷ rest) = ap suc (length-marked is_last (q ∷ rest))
 
--- the test says whether place i is the last of n
+-- the test says whether index i is the last of n
 record IsAtEnd (last : Bool) (i n : ℕ) : Type 0 where
   is : last ≡ true → i + 1 ≡ n
   not : last ≡ false → i + 1 ≢ n
@@ -127,7 +127,7 @@ marked_by top last (q ∷ r ∷ rest) zero p at end =
 marked_by top last (q ∷ r ∷ rest) (suc i) p at end =
     marked_by top last (r ∷ rest) i p at (record { is = λ e. let h = end.is e in omega arith; not = λ e k. end.not e (omega (arith, k)) })
 
--- the packet at place i is marked if it is the last, and else sent as it was
+-- the packet at index i is marked if it is the last, and otherwise sent as it was
 pub marked_at : (top : Bool) (ps : List Packet) (i : ℕ) (p : Packet) → slice_get ps i ≡ Some p
     → slice_get (marked top ps) i ≡ Some (record p { marker = top && eqb (i + 1) (length ps) || p.marker })
 marked_at top ps i p at = marked_by top (eqb (i + 1) (length ps)) ps i p at (at_end i (length ps))

@@ -1,4 +1,4 @@
--- A call that the recorder noted and that the content did is served.
+-- A call that the recorder noted and that the content executed is served.
 use Rattle.std.proofs.Common.{◌≡◌, ℕ, Bool, true, false, cond, List, [], ◌∷◌, ◌++◌, Option, Some, None, sym, ap, ◌∙◌, subst, refl, true≢false}
 use Rattle.std.proofs.lemmas.List.{append-nil}
 use Rattle.sfu_base.specs.declared.call.Refusal.TheVariants.{NoMemory}
@@ -14,14 +14,14 @@ use Rattle.room_core.specs.declared.room.Room.{Room}
 use Rattle.room_core.specs.Noted.{Noted, Notes}
 use Rattle.room_core.specs.Replies.{answer}
 use Rattle.room_core.specs.History.{Entry, accepted, after, after_entry, kept, noted_of}
-use Rattle.room_core.specs.Content.{Does, IsAcceptedAfter, IsAfter, TakesMemory}
+use Rattle.room_core.specs.Content.{Does, DoesSilently, IsAcceptedAfter, IsAfter, TakesMemory}
 use Rattle.room_core.specs.Serves.{DoesAsServe, Serves, ServesInto, StandsHeadline}
 use Rattle.room_core.specs.Sendable.{IsSendable}
 use Rattle.room_core.specs.WellFormed.{AreWellFormed, IsValue}
 use Rattle.room_core.proofs.WellFormed.{well_formed_after}
 use Rattle.room_core.proofs.Promising.{headline}
 
--- a recorder that noted the call shows what the longer history keeps
+-- a recorder that noted the call shows the calls that the longer history has
 keeps_more : (told told' : Option (List Noted)) (history : List Entry) (seat : ℕ) (call : Call) (starved : Bool) → starved ≡ false → Notes told told' seat call
     → IfSome told (λ notes. notes ≡ kept history) → IfSome told' (λ notes. notes ≡ kept (history ++ record { seat = seat; call = call; starved = starved } ∷ []))
 keeps_more None None history seat call starved fed notes h = tt
@@ -77,7 +77,7 @@ starves noted old new seat call bytes numbers same notes = record {
 pub stands_headline : {R : Type 0} (noted : R → Option (List Noted)) (room : Room R) → StandsHeadline noted room
 stands_headline noted room history stands = headline history stands.well_formed
 
--- ---- with what is left in the scratch
+-- ---- with the content of the scratch
 
 none_starved : {A : Type 0} (reply : Reply) → is_starved reply ≡ false → IsTrue (is_starved reply) → A
 none_starved reply fed starved = absurd (true≢false (sym starved ∙ fed))
@@ -95,7 +95,15 @@ did noted may_refuse old new seat call given serves fed same none = record {
   sends_none = none;
 }
 
--- or leaves this
+-- the same for a call for which nothing was prepared
+pub noted_did : {R : Type 0} (noted : R → Option (List Noted)) (may_refuse : R → Bool) (old new : Room R) (seat : ℕ) (call : Call) (given : Reply)
+    → DoesSilently old.content new.content call given → is_starved given ≡ false → given ≢ reply.Packet → IsValue call
+    → Notes (noted old.recorder) (noted new.recorder) seat call → may_refuse new.recorder ≡ may_refuse old.recorder → DoesAsServe noted may_refuse old new seat call given
+noted_did noted may_refuse old new seat call given does fed none value notes same =
+    did noted may_refuse old new seat call given
+    (λ bytes numbers. served noted old old new seat call given bytes numbers (λ past h. h) (does bytes numbers) fed value notes) fed same none
+
+-- or leaves this in it
 pub did_into : {R : Type 0} (noted : R → Option (List Noted)) (may_refuse : R → Bool) (old new : Room R) (seat : ℕ) (call : Call) (given : Reply) (before after : Scratch)
     → Serves noted old new seat call given after.packet after.names → is_starved given ≡ false → may_refuse new.recorder ≡ may_refuse old.recorder
     → (given ≢ reply.Packet → after.packet ≡ before.packet) → (given ≢ reply.Names → after.names ≡ before.names) → (given ≡ reply.Packet → IsSendable after.packet)
@@ -111,7 +119,7 @@ did_into noted may_refuse old new seat call given before after serves fed same p
   sendable = sendable;
 }
 
--- a recorder refused
+-- a recorder refused the call
 pub not_noted : {R : Type 0} (noted : R → Option (List Noted)) (may_refuse : R → Bool) (old new : Room R) (seat : ℕ) (call : Call)
     → ((past : List Call) → IsAfter old.content past → IsAfter new.content past) → noted new.recorder ≡ noted old.recorder → may_refuse new.recorder ≡ may_refuse old.recorder
     → IsTrue (may_refuse old.recorder) → DoesAsServe noted may_refuse old new seat call (reply.Refused NoMemory)
@@ -124,7 +132,7 @@ not_noted noted may_refuse old new seat call same notes recorder refuses = recor
   sends_none = λ same. cc;
 }
 
--- or what the call needs wasn't found
+-- or there was no memory for what the call needs
 pub not_ready : {R : Type 0} (noted : R → Option (List Noted)) (may_refuse : R → Bool) (old new : Room R) (seat : ℕ) (call : Call)
     → ((past : List Call) → IsAfter old.content past → IsAfter new.content past) → new.recorder ≡ old.recorder
     → TakesMemory call → IsAcceptedAfter old.content call → DoesAsServe noted may_refuse old new seat call (reply.Refused NoMemory)
@@ -137,7 +145,7 @@ not_ready noted may_refuse old new seat call same recorder takes accepted_after 
   sends_none = λ same. cc;
 }
 
--- what leaves nothing in the scratch leaves it as it was
+-- a call that leaves nothing in the scratch doesn't change it
 pub silently_into : {R : Type 0} (noted : R → Option (List Noted)) (may_refuse : R → Bool) (old new : Room R) (seat : ℕ) (call : Call) (given : Reply) (scratch : Scratch)
     → DoesAsServe noted may_refuse old new seat call given → ServesInto noted may_refuse old new seat call given scratch scratch
 silently_into noted may_refuse old new seat call given scratch does = record {

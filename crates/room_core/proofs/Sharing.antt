@@ -8,7 +8,7 @@ use Rattle.frame_cache.specs.Sharing.{AreFirst, IsShared, MayShare, CarriesMask}
 use Rattle.room_core.specs.FrameCache.{IsOfFrame, TellsFirst}
 use Rattle.room_core.proofs.Pushing.{keeps_nothing}
 
--- what is shared at a place of the frame is its packet there
+-- the packet shared at an index of the frame is the frame's packet there
 pub is_shared : (shared packets : List (List ℕ)) (place : ℕ) (packet : List ℕ) → AreFirst shared packets → slice_get packets place ≡ Some packet
     → IsShared place packet shared
 is_shared shared packets place packet first at other there =
@@ -17,7 +17,7 @@ is_shared shared packets place packet first at other there =
     sym there ∙ ap (λ (l : List (List ℕ)). slice_get l place) first ∙ item_before_end packets (length shared) place within ∙ at in
     cc same
 
--- one more is shared, or none
+-- one more packet is shared, or none
 pub more_shared : (old new packets : List (List ℕ)) (place : ℕ) (packet : List ℕ) → AreFirst old packets → slice_get packets place ≡ Some packet
     → MayShare place packet old new → AreFirst new packets
 more_shared old new packets place packet first at (inl same) = subst (λ (l : List (List ℕ)). AreFirst l packets) (sym same) first
@@ -32,7 +32,7 @@ shared_grows place packet old new (inl same) = subst (λ (l : List (List ℕ)). 
 shared_grows place packet old new (inr one) =
     subst (λ (l : List (List ℕ)). length old ≤ length l) (sym one.1) (omega (arith, length-append old (packet ∷ [])))
 
--- ---- what is kept of the frame
+-- ---- what is stored of the frame
 
 pub frame_begins : (layers : Option Layers) (packets : List (List ℕ)) (cache : FrameCache) → cache.mask ≡ None → cache.shared.items ≡ [] → IsOfFrame layers packets cache
 frame_begins layers packets cache none empty = record {
@@ -40,7 +40,7 @@ frame_begins layers packets cache none empty = record {
   shared = subst (λ (l : List (List ℕ)). AreFirst l packets) (sym empty) refl;
 }
 
--- what is told stays, where neither the mask nor the packet changed
+-- the remasked packet stays if neither the mask nor the packet changed
 pub told_stays : (layers : Option Layers) (packets : List (List ℕ)) (old new : FrameCache) → new.mask ≡ old.mask → new.packet ≡ old.packet
     → TellsFirst layers packets old → TellsFirst layers packets new
 told_stays None packets old new mask packet h = tt

@@ -1,4 +1,4 @@
--- A track's pipeline in the words of the room: its events, its items, and one step.
+-- A track's pipeline in the room's terms: its events, its items, and one step.
 use Rattle.std.proofs.Common.{◌≡◌, ◌↔◌, ℕ, Bool, true, false, cond, List, [], ◌∷◌, ◌++◌, length, map, drop, refl, sym, ap, subst, ◌∙◌, Option, Some, None, slice_get, option_map}
 use Rattle.std.specs.Prelude.{IfSome}
 use Rattle.std.proofs.lemmas.List.{append-nil}
@@ -49,9 +49,9 @@ kind_begun o Plain h = ap kind_by h
 kind_begun None (Layered id) h = absurd (let none : None ≡ Some id = h in cc)
 kind_begun (Some l) (Layered id) h = let same : l.id ≡ id = cc in ap Layered same
 
--- ---- what a pipeline stands for
+-- ---- the history that a pipeline represents
 
--- its order is that of its events
+-- its reorder window is that of its events
 pub order_at : (events : List Event) (track : Seen) (items : List Item) → IsAt events track items → track.window.order ≡ order_of track.window.hold events
 order_at events track items h = h.stands.window.order
 
@@ -73,7 +73,7 @@ same_after : {X : Type 0} (xs ys zs : List X) → xs ++ ys ≡ xs ++ zs → ys �
 same_after [] ys zs e = e
 same_after (x ∷ xs) ys zs e = same_after xs ys zs (ap (drop 1) e)
 
--- what waits then is what the event adds, if nothing waited before
+-- what waits afterwards is what the event adds, if nothing waited before
 pub brought_waits : (event : Event) (events : List Event) (old new : Seen) (items : List Item) → IsBrought event old new → old.window.waiting ≡ [] → IsAt events old items
     → new.window.waiting ≡ added old.window.hold old.window.order event
 brought_waits event events old new items b idle h =
@@ -86,7 +86,7 @@ brought_waits event events old new items b idle h =
     (after ∙ ap (λ (w : List Piece). w ++ added old.window.hold (order_of old.window.hold events) event) (sym before)
     ∙ ap (λ (o : Order). h.worked ++ added old.window.hold o event) (sym h.stands.window.order))
 
--- if nothing waits, all of the events' pieces were processed; and so the order after an event is one event on
+-- if nothing waits, all pieces of the events were processed; so the reorder window after an event is one event further
 pub brought_order : (event : Event) (events : List Event) (old new : Seen) (items : List Item) → IsBrought event old new → IsAt events old items
     → new.window.order ≡ order_of old.window.hold (event ∷ events)
 brought_order event events old new items b h =
@@ -112,7 +112,7 @@ framed_in_force format force (Some run) frame e = go force.structure (number_of 
     go (Some s) None is e = absurd cc
     go (Some s) (Some n) is e = is ∙ ap (λ (o : Option (Frame TemplateStructure)). structure_by o) e
 
--- a frame was read by the structure that is in force once its last packet was read
+-- a frame was read with the structure that is in force once its last packet was read
 made_in_force : (format : Format TemplateStructure) (state : TrackState TemplateStructure) (item : Item) (frame : Frame TemplateStructure)
     → (made_by_item format state item).frame ≡ Some frame → (made_by_item format state item).state.force.structure ≡ Some frame.structure
 made_in_force format state Missing frame e = framed_in_force format state.force (cut_by state.run GoneMark) frame e

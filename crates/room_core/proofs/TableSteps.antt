@@ -1,9 +1,9 @@
--- What a change of one entry, or of the subscribers of one track, leaves of the relation between a table and the history.
+-- The relation between a table and the history after one entry, or the subscribers of one track, changed.
 use Rattle.std.proofs.Common.{◌≡◌, ℕ, Bool, true, false, cond, refl, sym, ap, subst, ◌∙◌, Option, Some, None, nat_eq}
 use Rattle.std.proofs.lemmas.Bool.{eqb-true}
 use Rattle.room_core.specs.Passing.{Both}
 
--- One lemma for all calls that change the entry with one number: of all others what stood before is enough.
+-- One lemma for all calls that change the entry with one number: for all other entries the facts from before suffice.
 pub table_after : {A B : Type 0} (R R' : ℕ → A → B → Type 0) (old new : ℕ → Option A) (f f' : ℕ → Option B) (k : ℕ) (w : Option A)
     → ((n : ℕ) → Both (R n) (old n) (f n))
     → ((n : ℕ) → new n ≡ cond (nat_eq k n) w (old n))
@@ -28,7 +28,7 @@ table_after R R' old new f f' k w h is others at keeps n = go (nat_eq k n) refl
         let there : new n ≡ old n = is n ∙ ap (λ (b : Bool). cond b w (old n)) e in
         subst (λ (o : Option _). Both (R' n) o (f' n)) (sym there) (subst (λ (o : Option _). Both (R' n) (old n) o) (sym (others n e)) (weaker (old n) (f n) e (h n)))
 
--- And of a table that is mapped: each entry's own step is enough.
+-- And for a table that is mapped: the step of each entry suffices.
 pub table_mapped : {A B : Type 0} (R R' : ℕ → A → B → Type 0) (P : A → A → Type 0) (old new : ℕ → Option A) (f f' : ℕ → Option B)
     → ((n : ℕ) → Both (R n) (old n) (f n))
     → ((n : ℕ) → Both P (old n) (new n))
@@ -45,7 +45,7 @@ table_mapped R R' P old new f f' h mapped same step n = subst (λ (o : Option _)
     go (Some a) (Some a') None p r = absurd r
     go (Some a) (Some a') (Some b) p r = step n a a' b p r
 
--- If nothing of the table changes.
+-- The table doesn't change.
 pub table_same : {A B : Type 0} (R R' : ℕ → A → B → Type 0) (old : ℕ → Option A) (f f' : ℕ → Option B)
     → ((n : ℕ) → Both (R n) (old n) (f n)) → ((n : ℕ) → f' n ≡ f n) → ((n : ℕ) (a : A) (b : B) → R n a b → R' n a b)
     → (n : ℕ) → Both (R' n) (old n) (f' n)

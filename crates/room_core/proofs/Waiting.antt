@@ -34,7 +34,7 @@ module _ {V : Type 0} (P : V → Type 0) where
   pub all_next : (i : ℕ) (es : List (ℕ × V)) (e : ℕ × V) → AllFirst P i es → slice_get es i ≡ Some e → P e.1 → AllFirst P (i + 1) es
   all_next i es e h at p = subst (λ (k : ℕ). AllFirst P k es) (let e : suc i ≡ i + 1 = omega arith in e) (all_suc i es e h at p)
 
-  -- entries that have it anyway
+  -- entries for which it is true anyway
   pub all_gap : (i p : ℕ) (es : List (ℕ × V)) → AllFirst P i es → i ≤ p → ((q : ℕ) (e : ℕ × V) → i ≤ q → q < p → slice_get es q ≡ Some e → P e.1) → AllFirst P p es
   all_gap i zero es h le own = tt
   all_gap i (suc p) [] h le own = tt

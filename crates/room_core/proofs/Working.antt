@@ -1,4 +1,4 @@
--- What a track makes of its items, one after another, to each of its subscribers.
+-- The effect of a track's items, one after another, on each of its subscribers.
 use Rattle.std.proofs.Common.{◌≡◌, ℕ, Bool, true, false, ◌&&◌, ◌||◌, List, [], ◌∷◌, ◌++◌, refl, sym, ap, subst, ◌∙◌, Option, Some, None, slice_get}
 use Rattle.std.specs.Prelude.{not}
 use Rattle.std.specs.List.{list_any}
@@ -68,7 +68,7 @@ passed_weaker R S number f g w r n =
     both_weaker (IsPassed R number) (IsPassed S number) (f n) (g n)
     (λ a b p. record { track = p.track; resent = p.resent; passed = λ same. w a.feed.value b.feed.value (p.passed same); other = p.other }) (r n)
 
--- ---- what one item made is to a subscriber
+-- ---- the meaning of one item's result for a subscriber
 
 pub record NothingMade (kind : Kind) (older done : List Item) (item : Item) : Type 0 where
   pub released : released_as kind older (item ∷ done) ≡ released_as kind older done
@@ -142,7 +142,7 @@ frame_made Plain older done (Got h) meaning new m = absurd (let none : made.Fram
 frame_made Plain older done (Gone from to) meaning new m = absurd (let none : made.Frame meaning ≡ made.Nothing = m in cc)
 frame_made (Layered id) older done piece meaning new m = frame_made_by id older done (item_of piece) _ meaning new refl m
 
--- ---- and what it does to one
+-- ---- and its effect on a subscriber
 
 nothing_follows : (kind : Kind) (older done : List Item) (item : Item) (feed : Feed) → NothingMade kind older done item → FollowsOn kind older done (item ∷ done) feed feed
 nothing_follows kind older done item feed m to events stay h = subst (λ (l : List Happened). Follows kind feed to (l ++ events)) (sym m.released) h

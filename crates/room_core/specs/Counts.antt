@@ -1,5 +1,5 @@
--- What is counted of a subscriber. Own rules. The definitions count in the list of verdicts and in the subscriber's timeline, which have the newest
--- first; the code adds to a count at each event.
+-- Counts of a subscriber. Own rules. The definitions count in the list of verdicts and in the
+-- subscriber's timeline, which have the newest first. The code increases a count at each event.
 use Rattle.std.specs.Prelude.{◌+◌, ◌-◌, ◌^◌, ℕ, Bool, true, false, not, min, List, [], ◌∷◌}
 use Rattle.sfu_base.specs.declared.frame.Step.{Step}
 use Rattle.sfu_base.specs.declared.frame.Verdict.{Verdict}
@@ -14,7 +14,7 @@ use Rattle.track_core.specs.Counts.{add_where}
 use Rattle.room_core.specs.declared.counts.FeedCounts.{FeedCounts}
 use Rattle.room_core.specs.declared.counts.FrameCounts.{FrameCounts}
 
--- ---- counts that stay at the greatest value
+-- ---- counts that stop at the greatest value
 
 abbrev pub greatest_count : ℕ
 greatest_count = 2 ^ 64 - 1
@@ -55,7 +55,7 @@ abbrev pub is_unopened : Verdict → Bool
 is_unopened (Unopened since) = true
 is_unopened other = false
 
--- how many frames have a verdict that passes the test
+-- the number of frames whose verdict passes the test
 abbrev pub how_many : (Verdict → Bool) → List Step → ℕ
 how_many test [] = 0
 how_many test (step ∷ steps) = add_where (test step.verdict) (how_many test steps)
@@ -73,7 +73,7 @@ frame_counts steps = record {
 
 -- ---- packets
 
--- how many packets of a plain track came while 512 were queued, so that they weren't queued
+-- the number of packets of a plain track that weren't queued, since they came while 512 packets were queued
 abbrev pub left_out_of : Wish → List (Event TemplateStructure) → ℕ
 left_out_of wish [] = 0
 left_out_of wish (WholeFrame frame ∷ past) = left_out_of wish past
@@ -81,7 +81,7 @@ left_out_of wish (PlainPacket packet ∷ past) = add_where (not (plain_passes (s
 left_out_of wish (WishChange changed ∷ past) = left_out_of wish past
 left_out_of wish (Take ∷ past) = left_out_of wish past
 
--- ---- what a feed counts
+-- ---- the counts of a feed
 
 -- over this timeline of a subscriber that joined with this wish
 abbrev pub feed_counts : Wish → List (Event TemplateStructure) → FeedCounts
@@ -97,9 +97,9 @@ no_frames = record { passed = 0; not_of_target = 0; behind = 0; reference = 0; f
 abbrev pub no_counts : FeedCounts
 no_counts = record { frames = no_frames; taken = 0; left_out = 0 }
 
--- ---- one event more
+-- ---- one more event
 
--- one frame more, with this verdict; no frame has the verdict of a hole
+-- one more frame, with this verdict; no frame has the verdict of a hole
 abbrev pub counted_frame : Verdict → FrameCounts → FrameCounts
 counted_frame Passed c = record c { passed = raised c.passed }
 counted_frame (NotOfTarget target) c = record c { not_of_target = raised c.not_of_target }
@@ -113,11 +113,11 @@ counted_frame (Hole below above) c = c
 abbrev pub with_frame : Verdict → FeedCounts → FeedCounts
 with_frame verdict c = record c { frames = counted_frame verdict c.frames }
 
--- one packet more that a full queue left out
+-- one more packet that wasn't queued, since the queue was full
 abbrev pub and_left_out : FeedCounts → FeedCounts
 and_left_out c = record c { left_out = raised c.left_out }
 
--- one packet more that was taken, if one was found
+-- one more packet that was taken, if one was queued
 abbrev pub and_taken : Bool → FeedCounts → FeedCounts
 and_taken true c = record c { taken = raised c.taken }
 and_taken false c = c

@@ -1,5 +1,5 @@
--- What is counted of a live subscriber since its join, and of a live track since its publish, by the history. Own rules. The verdicts, packets and
--- takes are those of the subscriber's timeline; the numbers and frames are those of the track's reorder window and of its items.
+-- Counts of a live subscriber since its join, and of a live track since its publish, by the history. Own rules. The subscriber's
+-- timeline determines the verdicts, packets and takes. The track's reorder window and items determine the numbers and frames.
 use Rattle.std.specs.Prelude.{◌≡◌, ◌-◌, ℕ, List, Result, length}
 use Rattle.sfu_base.specs.declared.call.Call.{Call}
 use Rattle.sfu_base.specs.declared.call.Kind.{Kind}
@@ -30,7 +30,7 @@ use Rattle.room_core.specs.Views.{events_for, subscriber_by}
 
 -- ---- a subscriber
 
--- by its verdicts, its outgoing packets, those that were taken or left out, its queue, and how many packets were returned once more
+-- from its verdicts, its outgoing packets, those that were taken or not queued, its queue, and the number of resends that returned a packet
 abbrev pub subscriber_counts : Kind → Subscriber → List Happened → ℕ → SubscriberCounts
 subscriber_counts kind to events resends = record {
   passed = saturated (how_many is_passed (verdicts to.wish events));
@@ -51,7 +51,7 @@ abbrev pub HasCounts : Feed → ℕ → SubscriberCounts → Type 0
 HasCounts feed resent result = (kind : Kind) (to : Subscriber) (events : List Happened) (resends : ℕ) → Follows kind feed to events
     → resent ≡ saturated resends → result ≡ subscriber_counts kind to events resends
 
--- of a subscriber that joined like this
+-- for a subscriber that joined as j
 abbrev pub subscriber_counts_for : ℕ → Joined → List Call → SubscriberCounts
 subscriber_counts_for number j past = subscriber_counts (kind_of j.track past) (subscriber_by j) (events_for number j past) (resends_of number past)
 
@@ -61,7 +61,7 @@ AreSubscriberCounts history subscriber result =
 
 -- ---- a track
 
--- the pieces of the track's reorder window since its publish, the oldest first
+-- the pieces that the track's reorder window returned since its publish, the oldest first
 abbrev pub pieces_at : ℕ → List Call → List Piece
 pieces_at track past = order_items (hold_of track past) (events_of track past)
 

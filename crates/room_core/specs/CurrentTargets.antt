@@ -1,6 +1,6 @@
--- The decode target that a subscriber is sent, and whether it is the best that the subscriber's wish allows, by the history. Own rules: the target
--- and the wish are those of the subscriber's standing; the target's layers and the best target are those at the newest frame of its timeline. A track
--- that has ended makes no more frames, so its newest frame stays the same.
+-- The decode target that a subscriber is sent, and whether it is the best that the subscriber's wish allows, by the history.
+-- Own rules. The target and the wish are those of the subscriber's standing. The target's layers and the best target are
+-- those at the newest frame of its timeline. A track that has ended makes no more frames, so its newest frame stays the same.
 use Rattle.std.specs.Prelude.{◌≡◌, ℕ, Bool, List, Option, None, Some, Result, Ok, Err}
 use Rattle.sfu_base.specs.declared.call.Call.{Call}
 use Rattle.sfu_base.specs.declared.call.Refusal.{Refusal}
@@ -26,14 +26,14 @@ abbrev pub target_in : Option FrameMeaning → CurrentTarget → Option DecodeTa
 target_in newest (Open target opened) = Some (record { index = target; layers = layers_at newest target })
 target_in newest (Closed reason) = None
 
--- the target sent to a subscriber that joined like this
+-- the target sent to a subscriber that joined as j
 abbrev pub target_for : ℕ → Joined → List Call → Option DecodeTarget
 target_for number j past = target_in (newest_frame (events_for number j past)) (standing_of number j past).target
 
 abbrev pub reaches_for : ℕ → Joined → List Call → Bool
 reaches_for number j past = reaches (newest_frame (events_for number j past)) (standing_of number j past).wish (standing_of number j past).target
 
--- the result of a query for a live subscriber, else the refusal
+-- the result of a query for a live subscriber; for any other number the refusal
 abbrev pub told_of : {X : Type 0} → Option Joined → (Joined → X) → Result X Refusal
 told_of None tell = Err NoSubscriber
 told_of (Some j) tell = Ok (tell j)

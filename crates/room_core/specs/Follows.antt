@@ -1,4 +1,4 @@
--- The timeline that a subscriber's part of a room represents, and how each event changes that part. Lists of events have the newest first.
+-- The timeline that the code's state for a subscriber represents, and how each event changes that state. In lists of events the newest event comes first.
 use Rattle.std.specs.Prelude.{◌≡◌, ℕ, ◌+◌, ◌%◌, Bool, true, false, List, [], ◌∷◌, ◌++◌, length, map, take, drop, Option, None, Some, Result, Ok, Err}
 use Rattle.sfu_base.specs.Answer.{is_memory}
 use Rattle.sfu_base.specs.declared.call.Kind.{Kind}
@@ -45,7 +45,7 @@ pub record IsRingOf (ring : Ring) (to : Subscriber) (takes : ℕ) (out : List Pa
   pub queued : ring.queued ≡ map bytes_of (drop takes out)
   pub kept : ring.kept ≡ map sent_as (last_part 1024 (take takes out))
 
--- A subscriber of a track of this kind, which joined like this, is in the state after this timeline. Each take in the timeline found a packet.
+-- A subscriber of a track of this kind, which joined as `to`, is in the state after this timeline. Each take in the timeline found a packet.
 pub record Follows (kind : Kind) (feed : Feed) (to : Subscriber) (events : List Happened) : Type 0 where
   pub kind_is : feed.kind ≡ kind
   pub selector : StandsFor feed.selector (standing to.wish events)
@@ -64,7 +64,7 @@ pub record IsFresh (feed : Feed) (kind : Kind) (ssrc first : ℕ) (wish : Wish) 
   pub causes : feed.causes ≡ []
   pub counts_are : feed.counts ≡ no_counts
 
--- ---- one event more
+-- ---- one more event
 
 abbrev pub FollowsAim : Feed → Feed → Wish → Type 0
 FollowsAim old new wish = (kind : Kind) (to : Subscriber) (events : List Happened) → Follows kind old to events
@@ -74,11 +74,11 @@ abbrev pub FollowsPacket : Feed → Feed → List ℕ → Type 0
 FollowsPacket old new bytes = (kind : Kind) (to : Subscriber) (events : List Happened) → Follows kind old to events
     → Follows kind new to (PlainPacket (packet_of bytes) ∷ events)
 
--- the frame with this meaning and these packets, read with this structure
+-- the frame with this meaning and these packets, which were read with this structure
 abbrev pub frame_by : FrameMeaning → TemplateStructure → List (List ℕ) → Frame TemplateStructure
 frame_by meaning structure packets = record { meaning = meaning; structure = structure; packets = map packet_of packets }
 
--- A frame of the track became whole, with a number above those of all frames before. It was read with the structure in force.
+-- A frame of the track became whole. Its number is above those of all frames before it, and it was read with the structure in force.
 abbrev pub FollowsFrame : Feed → Feed → FrameMeaning → Seen → Type 0
 FollowsFrame old new meaning track = (kind : Kind) (to : Subscriber) (structure : TemplateStructure) (events : List Happened)
     → kind_by track.layers ≡ kind → structure_in track.layers ≡ Some structure
@@ -87,7 +87,7 @@ FollowsFrame old new meaning track = (kind : Kind) (to : Subscriber) (structure 
 
 -- ---- takes and resends
 
--- The next packet is returned, if there is one; else nothing changes.
+-- The next packet is returned, if there is one. If there is none, nothing changes.
 abbrev pub TakesNext : Option Packet → Kind → Feed → Feed → Bool → List ℕ → List ℕ → Subscriber → List Happened → Type 0
 TakesNext None kind old new found before bytes to events = (found ≡ false) × (new ≡ old) × (bytes ≡ before)
 TakesNext (Some packet) kind old new found before bytes to events =
@@ -135,7 +135,7 @@ Tells feed number result = (kind : Kind) (to : Subscriber) (events : List Happen
 abbrev pub pushed_all : List Packet → Ring → Ring
 pushed_all packets ring = record ring { queued = ring.queued ++ map bytes_of (numbered (ring.next + length ring.queued) ring.ssrc packets) }
 
--- a frame's packets were queued; the last one gets the marker if `is_top`, that is if the frame ends the temporal unit for the target
+-- A frame's packets were queued. If `is_top` is true, the frame ends the temporal unit for the target, and its last packet gets the marker.
 abbrev pub PushesFrame : Ring → Ring → List Packet → Bool → Type 0
 PushesFrame old new packets is_top = new ≡ pushed_all (marked is_top packets) old
 
@@ -143,7 +143,7 @@ PushesFrame old new packets is_top = new ≡ pushed_all (marked is_top packets) 
 abbrev pub PushesBehind : ℕ → Ring → Ring → List (List ℕ) → Bool → Type 0
 PushesBehind from old new packets is_top = new ≡ pushed_all (drop from (marked is_top (map packet_of packets))) old
 
--- ---- the first packet of a frame, by what a layered track keeps
+-- ---- the first packet of a frame, for a track with or without layers
 
 abbrev pub tells_by : Option Layers → List (List ℕ) → Bool
 tells_by None packets = false

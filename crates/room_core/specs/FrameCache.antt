@@ -4,13 +4,13 @@ use Rattle.track_core.specs.declared.layers.Layers.{Layers}
 use Rattle.frame_cache.specs.declared.cache.FrameCache.{FrameCache}
 use Rattle.frame_cache.specs.Sharing.{AreFirst, CarriesMask}
 
--- the first packet with a mask is that of the first of these packets, by what a layered track keeps
+-- If the track is layered and a mask is cached, the cached packet is the first of these packets with this mask.
 abbrev pub TellsFirst : Option Layers → List (List ℕ) → FrameCache → Type 0
 TellsFirst None packets told = Unit {0}
 TellsFirst (Some l) [] told = Unit {0}
 TellsFirst (Some l) (packet ∷ rest) told = CarriesMask l.id l.table.structure packet told.mask told.packet
 
--- what is stored is of the frame with these packets
+-- what is stored belongs to the frame with these packets
 pub record IsOfFrame (layers : Option Layers) (packets : List (List ℕ)) (cache : FrameCache) : Type 0 where
   pub told : TellsFirst layers packets cache
   pub shared : AreFirst cache.shared.items packets

@@ -1,4 +1,4 @@
--- What is promised to each live subscriber, of every history: own statements, over the definitions of forwarding.
+-- The guarantees for each live subscriber, for every history. These are own statements, over the definitions of forwarding.
 use Rattle.std.specs.Prelude.{◌≡◌, ◌↔◌, ◌≤◌, ◌<◌, ◌+◌, ℕ, List, ◌∷◌, ◌++◌, true, map, length, None, Some}
 use Rattle.std.specs.List.{AllByRecursion}
 use Rattle.sfu_base.specs.Answer.{Refused, Sent, Told}
@@ -28,10 +28,10 @@ use Rattle.room_core.specs.Replies.{answer}
 use Rattle.room_core.specs.SentBytes.{AreInOrder, going_out, taken_of}
 use Rattle.room_core.specs.Views.{events_for}
 
--- ---- of the subscriber with the number n, which joined a layered track like this
+-- ---- for the subscriber with the number n, which joined a layered track as j
 
--- A strict receiver, which sees only bytes, has no complaint about the packets that were taken, nor about any prefix of all packets that are taken or
--- queued.
+-- A strict receiver, which sees only bytes, has no complaint about the packets that were
+-- taken. Nor has it a complaint about any prefix of all packets that are taken or queued.
 pub record PleasesReceivers (id n : ℕ) (j : Joined) (past : List Call) : Type 0 where
   pub given : complaint (format_of id) (map read_packet (given_to n past)) ≡ None
   pub fronts : (sends queued : List (List ℕ)) → sends ++ queued ≡ going_out n j past
@@ -41,7 +41,7 @@ pub record PleasesReceivers (id n : ℕ) (j : Joined) (past : List Call) : Type 
 abbrev pub AllDecodable : Wish → List Happened → Type 0
 AllDecodable wish events = AllByRecursion (λ f. IsDecodable (of_epoch f.epoch (standing wish events).passed) f) (standing wish events).passed
 
--- if a chain was found broken at a frame, the next frame that passes (this one or a later one) is a restart
+-- if a chain was found broken at a frame, the next frame that passes, which may be this one or a later one, is a restart
 pub record RestartsAfterBreaks (wish : Wish) (events : List Happened) : Type 0 where
   pub at_once : (since past : List Happened) (frame : Frame TemplateStructure) → events ≡ since ++ WholeFrame frame ∷ past
       → BreaksAt (standing wish past) frame.meaning → passes_at (standing wish past) frame.meaning (length frame.packets) ≡ true
@@ -53,15 +53,15 @@ pub record RestartsAfterBreaks (wish : Wish) (events : List Happened) : Type 0 w
       → passes_at (standing wish (since ++ WholeFrame broken ∷ past)) next.meaning (length next.packets) ≡ true
       → IsRestart (standing wish (since ++ WholeFrame broken ∷ past)) next.meaning
 
--- the cause of this frame number can be requested: the number is at most the newest, and less than 4,096 below it
+-- the cause of this frame number can be queried: the number is at most the newest frame's, and less than 4,096 below it
 pub record CanBeAsked (wish : Wish) (events : List Happened) (number : ℕ) : Type 0 where
   pub newest : ℕ
   pub newest_is : newest_number (verdicts wish events) ≡ Some newest
   pub has_come : number ≤ newest
   pub is_recent : newest < number + 4096
 
--- The cause of each frame's number states something about the frame that was true when the frame came. The path of each withheld frame ends at a
--- root, and each step of a path has the cause of its number. A call of `why` returns the cause if and only if it can be requested.
+-- The cause of each frame's number states something about the frame that was true when the frame came. The path of each withheld frame ends at a root, and
+-- each step of a path has the cause of its number. A call of `why` for a number returns its cause if and only if this cause can be queried (`CanBeAsked`).
 pub record ShowsCauses (n : ℕ) (wish : Wish) (events : List Happened) (past : List Call) : Type 0 where
   pub says : (since before : List Happened) (frame : Frame TemplateStructure) → events ≡ since ++ WholeFrame frame ∷ before
       → Says (standing wish before) frame.meaning (length frame.packets) (cause wish events frame.meaning.number)
@@ -76,11 +76,11 @@ pub record IsForwarded (id n : ℕ) (j : Joined) (past : List Call) : Type 0 whe
   pub restarts : RestartsAfterBreaks j.wish (events_for n j past)
   pub causes : ShowsCauses n j.wish (events_for n j past) past
 
--- ---- of every subscriber
+-- ---- for every subscriber
 
--- The packets that are sent have consecutive sequence numbers, and the takes returned a prefix of them. The next take returns the packet after this
--- prefix, or is refused if there is none. A resend returns a packet's bytes if and only if one of the last 1,024 takes returned them and the packet's
--- number is the resend's.
+-- The packets that are sent have consecutive sequence numbers, and the takes returned a prefix of these packets.
+-- The next take returns the packet after this prefix, or is refused if there is none. A resend returns a packet's
+-- bytes if and only if one of the last 1,024 takes returned them and the packet has the resend's number.
 pub record IsNumbered (n : ℕ) (j : Joined) (past : List Call) : Type 0 where
   pub given : given_to n past ≡ taken_of n j past
   pub consecutive : AreInOrder (going_out n j past)
@@ -89,7 +89,7 @@ pub record IsNumbered (n : ℕ) (j : Joined) (past : List Call) : Type 0 where
   pub resent : (sequence : ℕ) (bytes : List ℕ)
       → (answer past (Resend n sequence) ≡ Sent bytes) ↔ (IsMember bytes (last_part 1024 (given_to n past)) × (sequence_of bytes ≡ sequence))
 
--- ---- of all live subscribers
+-- ---- for all live subscribers
 
 pub record Headline (past : List Call) : Type 0 where
   pub layered : (n id : ℕ) (j : Joined) → joined n past ≡ Some j → kind_of j.track past ≡ Layered id → IsForwarded id n j past

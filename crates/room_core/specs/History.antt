@@ -1,4 +1,4 @@
--- The history of a room, and what the room answers after it. Own rule. The code stores no history, unless its recorder does.
+-- The history of a room, and the room's answers after it. Own rule. The code stores no history; only its recorder may.
 use Rattle.std.specs.Prelude.{ℕ, Bool, true, false, if◌then◌else◌, List, [], ◌∷◌, fold}
 use Rattle.std.specs.List.{flat_map}
 use Rattle.sfu_base.specs.Answer.{Answer, Refused}
@@ -6,7 +6,7 @@ use Rattle.sfu_base.specs.declared.call.Call.{Call}
 use Rattle.room_core.specs.Noted.{Noted}
 use Rattle.room_core.specs.Replies.{answer}
 
--- One call on the room by a seat. A starved call ran out of memory, and changes nothing.
+-- One call on the room by a seat. A starved call is one that ran out of memory; it changes nothing.
 pub record Entry : Type 0 where
   pub seat : ℕ
   pub call : Call
@@ -17,7 +17,7 @@ abbrev pub is_accepted : Answer → Bool
 is_accepted (Refused why) = false
 is_accepted answered = true
 
--- the accepted calls after one more with this answer; a refused call isn't added
+-- the accepted calls after one more call with this answer; a refused call isn't added
 abbrev pub after : Answer → Call → List Call → List Call
 after answered call past = if is_accepted answered then call ∷ past else past
 
@@ -25,7 +25,7 @@ after answered call past = if is_accepted answered then call ∷ past else past
 abbrev pub after_entry : List Call → Entry → List Call
 after_entry past entry = if entry.starved then past else after (answer past entry.call) entry.call past
 
--- The accepted calls of a history, the newest first. The entries of the history are the oldest first.
+-- The accepted calls of a history, the newest first. The history itself has its oldest entry first.
 abbrev pub accepted : List Entry → List Call
 accepted history = fold after_entry [] history
 
@@ -37,6 +37,6 @@ reply_of history call = answer (accepted history) call
 abbrev pub noted_of : Entry → List Noted
 noted_of entry = if entry.starved then [] else record { seat = entry.seat; call = entry.call } ∷ []
 
--- the seats and calls that a recorder has stored of a history: those that weren't starved
+-- the seats and calls of a history that a recorder has stored: all that weren't starved
 abbrev pub kept : List Entry → List Noted
 kept history = flat_map noted_of history

@@ -1,5 +1,5 @@
--- Where the subscribers of a track are in their table. Each track has a set of places, so that its packets and frames don't go through the
--- subscribers of other tracks.
+-- The table places of a track's subscribers. Each track has a set of these places,
+-- so that its packets and frames aren't offered to the subscribers of other tracks.
 use Rattle.std.specs.Prelude.{◌≡◌, ◌≢◌, ◌≤◌, ℕ, true, List, [], ◌∷◌, Option, Some, slice_get}
 use Rattle.place_set.specs.Places.{has_place}
 use Rattle.room_core.specs.Passing.{Both}
@@ -11,23 +11,23 @@ abbrev pub tracks_of : List (ℕ × LiveSubscriber) → List ℕ
 tracks_of [] = []
 tracks_of (e ∷ es) = e.1.track ∷ tracks_of es
 
--- the set has each place at which a subscriber of the track is; it may have others
+-- the set has each place of a subscriber of the track; it may have other places too
 abbrev pub HasPlaces : List ℕ → ℕ → List ℕ → Type 0
 HasPlaces places number on = (place : ℕ) → slice_get on place ≡ Some number → has_place places place ≡ true
 
--- each live track has the places of its subscribers
+-- each live track's set has the places of its subscribers
 abbrev pub HaveAll : (ℕ → Option LiveTrack) → List ℕ → Type 0
 HaveAll tracks on = (number : ℕ) (track : LiveTrack) → tracks number ≡ Some track → HasPlaces track.places number on
 
--- the same, and no subscriber's track and no live track has a number above the highest that a track ever had
+-- the same; and no live track, nor any subscriber's track, has a number above the highest that a track has ever had
 pub record IsIndexed (tracks : ℕ → Option LiveTrack) (on : List ℕ) (highest : ℕ) : Type 0 where
   pub has : HaveAll tracks on
   pub known : (place number : ℕ) → slice_get on place ≡ Some number → number ≤ highest
   pub live : (number : ℕ) (track : LiveTrack) → tracks number ≡ Some track → number ≤ highest
 
--- ---- a subscriber comes or goes
+-- ---- a subscriber joins or leaves
 
--- the same of all places except one
+-- the same for all places except one
 abbrev pub HaveAllBut : ℕ → (ℕ → Option LiveTrack) → List ℕ → Type 0
 HaveAllBut place tracks on =
     (number : ℕ) (track : LiveTrack) → tracks number ≡ Some track → (other : ℕ) → other ≢ place → slice_get on other ≡ Some number → has_place track.places other ≡ true

@@ -1,4 +1,4 @@
--- A note's seat and call.
+-- The seat and the call of a note.
 use Rattle.std.specs.Prelude.{ℕ}
 use Rattle.sfu_base.specs.declared.call.Call.{Call}
 use Rattle.room_core.specs.declared.note.Note.{Note}

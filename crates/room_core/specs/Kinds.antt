@@ -7,7 +7,7 @@ use Rattle.sfu_base.specs.declared.call.Refusal.TheVariants.{NoSubscriber}
 use Rattle.room_core.specs.Live.{Joined, joined, kind_of}
 use Rattle.room_core.specs.History.{Entry, accepted}
 
--- the kind that the live subscriber's track was published with, if there is such a subscriber
+-- the kind with which the live subscriber's track was published, if there is such a subscriber
 abbrev pub kind_joined : Option Joined → List Call → Option Kind
 kind_joined None past = None
 kind_joined (Some j) past = Some (kind_of j.track past)

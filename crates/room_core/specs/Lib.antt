@@ -19,7 +19,6 @@ pub mod Given
 pub mod Headline
 pub mod Indexed
 pub mod Serves
-pub mod Silent
 pub mod Sendable
 pub mod Counts
 pub mod Follows

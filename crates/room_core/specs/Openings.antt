@@ -9,7 +9,7 @@ use Rattle.target_selector.specs.Stands.{is_opening_at}
 use Rattle.room_core.specs.Follows.{Happened}
 use Rattle.room_core.specs.Sent.{opens}
 
--- A passed frame opens the target by the rule for sending (`opens`) exactly if it does by the rule for selecting frames.
+-- A passed frame opens the target by the rule for sending (`opens`) if and only if it does so by the rule for selecting frames.
 abbrev pub FramesOpenTheirTargets : Type 0
 FramesOpenTheirTargets = (wish : Wish) (events : List Happened) (f : FrameMeaning) (packets : ℕ) → IsOneTrack (f ∷ meanings_of events)
     → passes_at (standing wish events) f packets ≡ true

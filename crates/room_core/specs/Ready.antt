@@ -1,4 +1,4 @@
--- Which subscribers of a track have packets queued, by the history. Own rule. The code lists them in its table's order, which no clause says.
+-- The subscribers of a track that have packets queued, by the history. Own rule. The code lists them in its table's order, but no clause says so.
 use Rattle.std.specs.Prelude.{◌≡◌, ◌<◌, ◌==◌, ◌&&◌, ℕ, Bool, true, false, nat_eq, nat_lt, List, Option, None, Some, Contains, filter, length}
 use Rattle.std.specs.List.{IsDistinct}
 use Rattle.std.specs.Map.{keys_of}
@@ -17,7 +17,7 @@ is_ready_by track number (Some j) past = (j.track == track) && nat_lt 0 (length 
 abbrev pub is_ready : (track number : ℕ) → List Call → Bool
 is_ready track number past = is_ready_by track number (joined number past) past
 
--- The list has such subscribers, each once; if it has fewer than `limit`, it has all of them.
+-- The list has only such subscribers, each once. If it has fewer than `limit` numbers, it has all of them.
 pub record AreReady (track limit : ℕ) (past : List Call) (listed : List ℕ) : Type 0 where
   pub distinct : IsDistinct nat_eq listed
   pub ready : (n : ℕ) → Contains listed n → is_ready track n past ≡ true

@@ -1,5 +1,5 @@
--- What a room answers to a call, by the calls that it accepted before, the newest first. Own rule. Each refusal comes only if none of
--- those above it applies.
+-- The room's answer to a call, by the calls that it accepted before, the newest
+-- first. Own rule. A refusal is the answer only if no refusal above it applies.
 use Rattle.std.specs.Prelude.{ℕ, ◌==◌, ◌||◌, nat_le, not, Bool, false, if◌then◌else◌, List, Option, None, Some, is_some, Result, Ok, Err}
 use Rattle.sfu_base.specs.Answer.{Answer, Done, Sent, Named, KeyIs, Told, Refused}
 use Rattle.sfu_base.specs.declared.call.Call.{Call}
@@ -21,7 +21,7 @@ use Rattle.room_core.specs.TrackHistory.{order_at}
 use Rattle.room_core.specs.Sent.{sent}
 use Rattle.room_core.specs.Views.{events_for, key_wanted_on, subscriber_by, verdicts_of}
 
--- done, unless a refusal applies
+-- the answer `Done`, unless a refusal applies
 abbrev pub done_or : Option Refusal → Answer
 done_or None = Done
 done_or (Some why) = Refused why
@@ -46,7 +46,7 @@ join_refusal found highest live subscriber =
     else if nat_le 256 live then Some (refusal.TooMany live)
     else None
 
--- ---- by what is live
+-- ---- by the live tracks and subscribers
 
 abbrev pub of_track : Option Published → (Published → Answer) → Answer
 of_track None answer = Refused refusal.NoTrack
@@ -56,7 +56,7 @@ abbrev pub of_subscriber : Option Joined → (Joined → Answer) → Answer
 of_subscriber None answer = Refused refusal.NoSubscriber
 of_subscriber (Some j) answer = answer j
 
--- ---- takes, resends, causes
+-- ---- takes, resends and causes
 
 abbrev pub sent_or : Option Packet → Answer → Answer
 sent_or None otherwise = otherwise

@@ -1,6 +1,6 @@
--- What is sent of a frame to a subscriber with a target, before numbering, by the kind of the track. Own rules, over AV1 RTP payload format, Appendix
--- A (active_decode_targets_bitmask). This is the only definition of it: all statements about a subscriber cite it, and so does the code that queues a
--- frame. On a plain track there are no frames.
+-- The packets of a frame that are sent to a subscriber with a target, before numbering, by the kind of the track. Own
+-- rules, over AV1 RTP payload format, Appendix A (active_decode_targets_bitmask). There is no other definition of it:
+-- all statements about a subscriber cite it, and so does the code that queues a frame. A plain track has no frames.
 use Rattle.std.specs.Prelude.{ℕ, ◌==◌, ◌||◌, Bool, false, if◌then◌else◌, List, [], ◌∷◌, Option, Some}
 use Rattle.sfu_base.specs.declared.call.Kind.{Kind}
 use Rattle.sfu_base.specs.declared.call.Kind.TheVariants.{Plain, Layered}
@@ -34,8 +34,8 @@ remasked_first id force mask (packet ∷ rest) = remasked_packet id force mask p
 
 -- ---- the frame
 
--- The packets are sent with the marker at the frame's end, as by every sender of the forwarding model. The first packet gets the mask of the
--- subscriber's targets if the frame opens the target or the packet carries a structure or a mask.
+-- The packets are sent with the marker at the frame's end, as every sender of the forwarding model does. The first packet
+-- gets the mask of the subscriber's targets if the frame opens the target, or if the packet carries a structure or a mask.
 unfoldable pub layered_sent : ℕ → Sender TemplateStructure
 layered_sent id frame target =
     send_marked (record frame {

@@ -1,4 +1,4 @@
--- The history of one track, as in the forwarding model, from the calls that a room accepted. Own rule. Both lists have the newest first.
+-- The history of one track, as in the forwarding model, from the calls that a room accepted. Own rule. In both lists the newest comes first.
 use Rattle.std.specs.Prelude.{ℕ, ◌==◌, Bool, true, false, if◌then◌else◌, List, [], ◌∷◌}
 use Rattle.sfu_base.specs.declared.call.Call.{Call}
 use Rattle.sfu_base.specs.declared.call.Call.TheVariants as call
@@ -11,7 +11,7 @@ use Rattle.forwarding_model.specs.History.Entry.{Released, Joined, Aimed, Asked}
 use Rattle.room_core.specs.Items.{and_pieces}
 use Rattle.room_core.specs.Live.{hold_of, is_on, joined}
 
--- a list with one more item before it, if the test is true
+-- a list with one more item at its start, if the test is true
 abbrev pub and_where : {X : Type 0} → Bool → X → List X → List X
 and_where true x xs = x ∷ xs
 and_where false x xs = xs
@@ -28,12 +28,12 @@ events_of n (call ∷ past) = events_of n past
 abbrev pub order_at : ℕ → List Call → Order
 order_at n past = order_of (hold_of n past) (events_of n past)
 
--- the items that one more event releases
+-- the items that the reorder window releases at one more event
 abbrev pub released : ℕ → List Call → Event → List Item
 released n past event = and_pieces (added (hold_of n past) (order_at n past) event) []
 
--- The track's history since it was published: what each of its packets and ticks released, and the joins, wishes and takes of its
--- subscribers.
+-- The track's history since it was published: the items that its packets
+-- and ticks released, and the joins, wishes and takes of its subscribers.
 abbrev pub entries_of : ℕ → List Call → List Entry
 entries_of n [] = []
 entries_of n (call.Publish track kind ssrc hold ∷ past) = if track == n then [] else entries_of n past

@@ -1,5 +1,5 @@
--- When a live track is due for a tick, and the number of its newest frame, by the history. Own rules: the track's reorder window is that of the reply
--- to `missing`, and its frames are those in its subscribers' timelines.
+-- The moment at which a live track is due for a tick, and the number of its newest frame, by the history. Own rules:
+-- the track's reorder window is that of the reply to `missing`, and its frames are those in its subscribers' timelines.
 use Rattle.std.specs.Prelude.{◌≡◌, ℕ, List, [], Option, None, Some, Result, Ok, Err}
 use Rattle.std.specs.Option.{option_map}
 use Rattle.sfu_base.specs.declared.call.Call.{Call}
@@ -19,7 +19,7 @@ use Rattle.room_core.specs.History.{Entry, accepted}
 use Rattle.room_core.specs.Live.{Published, hold_of, kind_of, published}
 use Rattle.room_core.specs.TrackHistory.{entries_of, order_at}
 
--- the result of a query for a live track, else the refusal
+-- the result of a query for a live track; for any other number the refusal
 abbrev pub told_of_track : {X : Type 0} → Option Published → X → Result X Refusal
 told_of_track None told = Err NoTrack
 told_of_track (Some p) told = Ok told
@@ -27,7 +27,7 @@ told_of_track (Some p) told = Ok told
 abbrev pub due_at : ℕ → List Call → Option ℕ
 due_at track past = due_of (hold_of track past) (order_at track past)
 
--- the frames that items make whole on a track of this kind, the newest first; a plain track has none
+-- the frames that these items make on a track of this kind, the newest first; a plain track has none
 abbrev pub frames_of : Kind → List Item → List (Frame TemplateStructure)
 frames_of Plain items = []
 frames_of (Layered id) items = frames_after (format_of id) items

@@ -1,5 +1,5 @@
--- What one subscriber of a room sees, by the calls that the room accepted, the newest first. Own rule. The forwarding model defines all of it over
--- the history of the subscriber's track; the code stores no history.
+-- The view of one subscriber of a room, by the calls that the room accepted, the newest first. Own rule. The
+-- forwarding model defines all of it over the history of the subscriber's track; the code stores no history.
 use Rattle.std.specs.Prelude.{ℕ, ◌==◌, ◌&&◌, ◌||◌, not, Bool, false, if◌then◌else◌, List, [], ◌∷◌, Option, None, Some}
 use Rattle.std.specs.List.{list_any}
 use Rattle.sfu_base.specs.declared.call.Call.{Call}
@@ -30,7 +30,7 @@ abbrev pub timeline_as : Kind → ℕ → List Entry → List (Event TemplateStr
 timeline_as Plain number entries = plain_timeline (sent Plain) number entries
 timeline_as (Layered id) number entries = timeline (format_of id) (sent (Layered id)) number entries
 
--- the events of a subscriber that joined like this
+-- the events of a subscriber that joined as j
 abbrev pub events_for : ℕ → Joined → List Call → List (Event TemplateStructure)
 events_for number j past = timeline_as (kind_of j.track past) number (entries_of j.track past)
 

@@ -1,4 +1,4 @@
--- What is true of each call that a room accepted, without a history: a packet is one that RTP reads, and an SSRC has 32 bits.
+-- Facts about each call that a room accepted, without a history: a packet is valid RTP, and an SSRC has 32 bits.
 use Rattle.std.specs.Prelude.{◌≡◌, ◌<◌, ◌^◌, List, None}
 use Rattle.std.specs.List.{AllByRecursion}
 use Rattle.sfu_base.specs.declared.call.Call.{Call}
@@ -13,7 +13,7 @@ IsWellFormed other = Unit {0}
 abbrev pub AreWellFormed : List Call → Type 0
 AreWellFormed calls = AllByRecursion IsWellFormed calls
 
--- what is true of each call that the code can get
+-- a fact about each call that the code can receive
 abbrev pub IsValue : Call → Type 0
 IsValue (Join subscriber track ssrc first wish) = ssrc < 2 ^ 32
 IsValue other = Unit {0}

@@ -1,4 +1,4 @@
-// What is counted of subscribers and tracks. The questions are no entries of the history.
+// Queries for the counters of subscribers and tracks. These queries add no entries to the history.
 ghost use Rattle.std.specs.Prelude.{◌≡◌, ◌+◌, List, min};
 ghost use Rattle.sfu_base.specs.declared.call.Call.{Call};
 ghost use Rattle.room_core.specs.Content.{IsAfter};
@@ -17,37 +17,37 @@ use crate::room::Room;
 use sfu_base::{Refusal, Verdict};
 use track_core::TrackCounts;
 
-/// What is counted of a subscriber since its join. The verdicts are those on the frames of its timeline, as [`Room::why`] returns them; on a plain
-/// track no frame comes. A count stays at 2^64 - 1 once it is there. Own rule.
+/// The counters of a subscriber since its join. The first seven counters count frames by their verdicts, as [`Room::why`] returns them; they are 0 on
+/// a plain track. A counter that reaches 2^64 - 1 stays there. Own rule.
 #[derive(Clone, Copy, Debug, PartialEq, Eq)]
 pub struct SubscriberCounts {
-    /// The frames that were passed.
+    /// The number of frames that were forwarded ([`Verdict::Passed`]).
     pub passed: u64,
-    /// The frames that were withheld because they aren't of the target ([`Verdict::NotOfTarget`]).
+    /// The number of frames that were withheld because they don't belong to the target ([`Verdict::NotOfTarget`]).
     pub not_of_target: u64,
-    /// The frames that were withheld because they refer behind the epoch ([`Verdict::Behind`]).
+    /// The number of frames that were withheld because they refer to a frame before the epoch ([`Verdict::Behind`]).
     pub behind: u64,
-    /// The frames that were withheld because they refer to a frame that wasn't passed ([`Verdict::Reference`]).
+    /// The number of frames that were withheld because they refer to a frame that wasn't forwarded ([`Verdict::Reference`]).
     pub reference: u64,
-    /// The frames that were withheld because the queue was too full ([`Verdict::Full`]).
+    /// The number of frames that were withheld because the queue was too full ([`Verdict::Full`]).
     pub full: u64,
-    /// The frames that were withheld because the target's chain was broken ([`Verdict::Link`]).
+    /// The number of frames that were withheld because the target's chain was broken ([`Verdict::Link`]).
     pub link: u64,
-    /// The frames that were withheld because no target was open ([`Verdict::Unopened`]).
+    /// The number of frames that were withheld because no target was open ([`Verdict::Unopened`]).
     pub unopened: u64,
-    /// The packets that were queued, those taken since included.
+    /// The number of packets that were queued, including the packets that have been taken since.
     pub queued: u64,
-    /// The packets that were taken.
+    /// The number of packets that were taken.
     pub taken: u64,
-    /// The packets that were returned once more.
+    /// The number of retransmitted packets.
     pub resent: u64,
-    /// On a plain track the packets that weren't queued because 512 were queued already.
+    /// The number of packets of a plain track that weren't queued because 512 packets were queued already.
     pub left_out: u64,
-    /// The packets that are queued now: at most 512.
+    /// The number of packets that are queued now, at most 512.
     pub waiting: u64,
 }
 
-/// How many frames had each verdict.
+/// The number of frames with each verdict.
 #[derive(Clone, Copy, Debug)]
 pub struct FrameCounts {
     pub passed: u64,
@@ -60,7 +60,7 @@ pub struct FrameCounts {
 }
 
 impl FrameCounts {
-    /// Before the first frame.
+    /// Returns the counters before the first frame, which are all 0.
     pub fn new() -> FrameCounts
         ensures { result ≡ no_frames }
     {
@@ -88,13 +88,13 @@ impl FrameCounts {
             Verdict::Full { .. } => count_one(&mut self.full),
             Verdict::Link { .. } => count_one(&mut self.link),
             Verdict::Unopened { .. } => count_one(&mut self.unopened),
-            // No frame has this verdict, only a number that no frame has.
+            // Only frame numbers without a frame have this verdict.
             Verdict::Hole { .. } => {}
         }
     }
 }
 
-/// What a feed counts.
+/// The counters of a feed.
 #[derive(Clone, Copy, Debug)]
 pub struct FeedCounts {
     pub frames: FrameCounts,
@@ -103,7 +103,7 @@ pub struct FeedCounts {
 }
 
 impl FeedCounts {
-    /// Before the first event.
+    /// Returns the counters before the first event, which are all 0.
     pub fn new() -> FeedCounts
         ensures { result ≡ no_counts }
     {
@@ -115,7 +115,7 @@ impl FeedCounts {
     }
 }
 
-/// Counts one more, up to 2^64 - 1.
+/// Adds 1 to the counter, unless the counter is 2^64 - 1.
 #[inline(always)]
 pub fn count_one(count: &mut u64)
     ensures { count.new ≡ min (count.old + 1) greatest_count }
@@ -126,16 +126,16 @@ pub fn count_one(count: &mut u64)
 }
 
 impl<R: Recorder> Room<R> {
-    /// Returns what is counted of the subscriber since its join. After the end of its track the frames stay as they are. This query adds no entry to
-    /// the history, changes nothing, and allocates no memory. `NoSubscriber`: no live subscriber has the number. Own rule.
+    /// Returns the subscriber's counters since its join. After the end of the subscriber's track, the counters of frames don't change. This query
+    /// adds no entry to the history, changes nothing, and allocates no memory. `NoSubscriber`: no live subscriber has the number. Own rule.
     pub fn subscriber_counts(&self, subscriber: u32) -> Result<SubscriberCounts, Refusal>
         ensures counts { (history : List Entry) → Stands R.noted self.now history → AreSubscriberCounts history subscriber result }
     {
         self.content.subscriber_counts(subscriber)
     }
 
-    /// Returns what is counted of the track since its publish. This query adds no entry to the history, changes nothing, and allocates no memory.
-    /// `NoTrack`: no live track has the number. Own rule.
+    /// Returns the track's counters since its publish. This query adds no entry to the history, changes nothing, and allocates no memory. `NoTrack`:
+    /// no live track has the number. Own rule.
     pub fn track_counts(&self, track: u32) -> Result<TrackCounts, Refusal>
         ensures counts { (history : List Entry) → Stands R.noted self.now history → AreTrackCounts history track result }
     {
@@ -144,7 +144,7 @@ impl<R: Recorder> Room<R> {
 }
 
 impl Content {
-    /// Returns what is counted of the subscriber.
+    /// Returns the subscriber's counters.
     pub fn subscriber_counts(&self, subscriber: u32) -> Result<SubscriberCounts, Refusal>
         ensures { (past : List Call) → IsAfter self.now past → result ≡ told_of (joined subscriber past) (λ j. subscriber_counts_for subscriber j past) }
     {
@@ -154,7 +154,7 @@ impl Content {
         }
     }
 
-    /// Returns what is counted of the track.
+    /// Returns the track's counters.
     pub fn track_counts(&self, track: u32) -> Result<TrackCounts, Refusal>
         ensures { (past : List Call) → IsAfter self.now past → result ≡ told_of_track (published track past) (track_counts_at track past) }
     {
@@ -166,7 +166,7 @@ impl Content {
 }
 
 impl Feed {
-    /// Returns what is counted of the subscriber, to which so many packets were returned once more.
+    /// Returns the subscriber's counters. `resent` is the number of packets that were retransmitted to the subscriber.
     pub fn counts(&self, resent: u64) -> SubscriberCounts
         ensures counts { HasCounts self.now resent result }
     {

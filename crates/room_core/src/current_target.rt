@@ -1,4 +1,4 @@
-// Queries about a live subscriber, which are no entries of the history.
+// Queries about the decode target of a live subscriber. These queries add no entries to the history.
 ghost use Rattle.std.specs.Prelude.{◌≡◌, List};
 ghost use Rattle.sfu_base.specs.declared.call.Call.{Call};
 ghost use Rattle.room_core.specs.Content.{IsAfter};
@@ -14,31 +14,31 @@ use crate::recorder::Recorder;
 use crate::room::Room;
 use sfu_base::{Refusal, Wish};
 
-/// The decode target that a subscriber of a layered track is sent (RTP Payload Format For AV1, Appendix A).
+/// The decode target whose frames are sent to a subscriber of a layered track (RTP Payload Format For AV1, Appendix A).
 #[derive(Clone, Copy, Debug, PartialEq, Eq)]
 pub struct DecodeTarget {
-    /// The target's index, 0 to 31, in the order of the publisher's structure.
+    /// The index of the target in the publisher's structure, 0 to 31.
     pub index: u8,
-    /// The target's greatest spatial and temporal layer at the newest frame; `None` if no template of that frame's structure is present in
-    /// the target.
+    /// The highest spatial layer and the highest temporal layer of the target, by the structure of the newest frame. `None` if no template of this
+    /// structure is present in the target.
     pub layers: Option<Wish>,
 }
 
 impl<R: Recorder> Room<R> {
-    /// The decode target that the subscriber is sent after its newest frame. `None` on a plain track, before the first key frame with
-    /// which the subscriber can begin, and after a chain broke. After the end of the track: the target at the last frame. This query
-    /// adds no entry to the history, changes nothing, and allocates no memory. `NoSubscriber`: no live subscriber has the number. Own
-    /// rule.
+    /// Returns the subscriber's current decode target, which is the target after the newest frame. Returns `None` on a plain track, before the first
+    /// key frame with which the subscriber can begin, and after the target's chain has broken, until a frame opens a target again. If the track has
+    /// ended, returns the target after the last frame. This query adds no entry to the history, changes nothing, and allocates no memory.
+    /// `NoSubscriber`: no live subscriber has the number. Own rule.
     pub fn target_of(&self, subscriber: u32) -> Result<Option<DecodeTarget>, Refusal>
         ensures target { (history : List Entry) → Stands R.noted self.now history → IsTargetOf history subscriber result }
     {
         self.content.target_of(subscriber)
     }
 
-    /// Whether the subscriber is sent the best target that its present wish allows at its newest frame. False if it is sent no target, so always on a
-    /// plain track. A raised wish is mostly reached only at a key frame, so a caller that gets false calls `plead`. After the end of the track the
-    /// last frame counts. This query adds no entry to the history, changes nothing, and allocates no memory. `NoSubscriber`: no live subscriber has
-    /// the number. Own rule.
+    /// Returns whether the subscriber's current decode target is the best target that the current wish allows at the newest frame. Returns false if
+    /// there is no current target, and so always on a plain track. A higher wish is mostly reached only at a key frame. So call `plead` if the result
+    /// is false. If the track has ended, the newest frame is the last one. This query adds no entry to the history, changes nothing, and allocates no
+    /// memory. `NoSubscriber`: no live subscriber has the number. Own rule.
     pub fn reaches_wish(&self, subscriber: u32) -> Result<bool, Refusal>
         ensures reaches { (history : List Entry) → Stands R.noted self.now history → IsReachedBy history subscriber result }
     {
@@ -47,7 +47,7 @@ impl<R: Recorder> Room<R> {
 }
 
 impl Content {
-    /// The target that the subscriber is sent.
+    /// Returns the subscriber's current decode target.
     pub fn target_of(&self, subscriber: u32) -> Result<Option<DecodeTarget>, Refusal>
         ensures { (past : List Call) → IsAfter self.now past → result ≡ told_of (joined subscriber past) (λ j. target_for subscriber j past) }
     {
@@ -57,7 +57,7 @@ impl Content {
         }
     }
 
-    /// Whether the target that the subscriber is sent is the best that its wish allows.
+    /// Returns whether the subscriber's current decode target is the best target that the wish allows.
     pub fn reaches_wish(&self, subscriber: u32) -> Result<bool, Refusal>
         ensures { (past : List Call) → IsAfter self.now past → result ≡ told_of (joined subscriber past) (λ j. reaches_for subscriber j past) }
     {
@@ -69,7 +69,7 @@ impl Content {
 }
 
 impl Feed {
-    /// The open target, if any, with its layers.
+    /// Returns the open target and its layers, or `None` if no target is open.
     pub fn sent_target(&self) -> Option<DecodeTarget>
         ensures target { HasTarget self.now result }
     {
@@ -82,7 +82,7 @@ impl Feed {
         }
     }
 
-    /// Whether the open target is the best that the wish allows.
+    /// Returns whether the open target is the best target that the wish allows.
     pub fn reaches_wish(&self) -> bool
         ensures reached { HasReached self.now result }
     {

@@ -1,8 +1,9 @@
-// What one subscriber is sent.
-ghost use Rattle.std.specs.Prelude.{◌≡◌, ◌≤◌, ◌||◌, ◌∷◌, [], false, true, IfOk, OnErr, OnOk, length};
+// The sending state of one subscriber.
+ghost use Rattle.std.specs.Prelude.{◌≡◌, ◌≤◌, ◌-◌, ◌||◌, ◌∷◌, [], false, true, IfOk, OnErr, OnOk, length, min};
 ghost use Rattle.rtp_packet.specs.Faults.{first_fault};
 ghost use Rattle.room_core.specs.Follows.{FollowsAim, FollowsFrame, FollowsPacket, FollowsTake, HasNoTarget, IsFed, IsFresh, Resends, Tells, tells_by};
 ghost use Rattle.room_core.specs.Sendable.{IsSendable};
+ghost use Rattle.frame_cache.specs.Capacity.{capacity_for};
 ghost use Rattle.frame_cache.specs.Sharing.{AreFirst};
 ghost use Rattle.room_core.specs.FrameCache.{IsOfFrame};
 
@@ -16,8 +17,8 @@ use std::alloc::Global;
 use target_selector::{FrameOffer, MOST_QUEUED, Selector};
 use track_core::Track;
 
-/// What one subscriber is sent: the kind of its track, the selection of frames, the queued and kept packets, the verdicts on frames, and what is
-/// counted. All memory of a feed is allocated when it is made.
+/// The sending state of one subscriber. It has the kind of the subscriber's track, the selector of frames, the packets in the queue and those kept
+/// for retransmission, the verdicts on frames, and the counters. All memory of a feed is allocated when the feed is created.
 #[derive(Drop)]
 pub struct Feed {
     pub kind: Kind,
@@ -28,7 +29,8 @@ pub struct Feed {
 }
 
 impl Feed {
-    /// Creates the state of a new subscriber of a track of this kind. The subscriber's packets are sent with this SSRC, numbered from `first` on.
+    /// Creates the feed of a new subscriber of a track of this kind. The subscriber's packets are sent with this SSRC, and with sequence numbers that
+    /// begin at `first`.
     pub fn new(
         alloc: Global,
         kind: Kind,
@@ -47,14 +49,15 @@ impl Feed {
         })
     }
 
-    /// Changes the wish.
+    /// Changes the subscriber's wish.
     pub fn aim(&mut self, wish: Wish)
         ensures follows { FollowsAim self.old self.new wish }
     {
         self.selector.aim(wish);
     }
 
-    /// Queues the next packet of a plain track if fewer than 512 packets are queued. `cache` shares the packet with the other subscribers.
+    /// Queues the next packet of a plain track if fewer than 512 packets are queued, and otherwise counts the packet as left out. With `cache`, the
+    /// track's subscribers can share one copy of the packet.
     pub fn pass_packet(&mut self, packet: &[u8], cache: &mut FrameCache)
         requires reads { first_fault packet.now ≡ None }
         requires fits { length packet.now ≤ 1500 }
@@ -69,9 +72,9 @@ impl Feed {
         }
     }
 
-    /// Decides whether a layered track's newest whole frame passes. If so, queues its packets. The first packet is sent with the mask of the
-    /// subscriber's targets if `tells` is true (the packet carries a structure or a mask) or the frame opens the target. `cache` shares the packets
-    /// with the frame's next subscribers.
+    /// Decides whether the newest complete frame of a layered track is forwarded to the subscriber, and queues the frame's packets if it is. The
+    /// first packet is sent with the mask of the subscriber's targets in two cases: if `tells` is true (the packet carries a structure or a mask), or
+    /// if the frame opens the target. With `cache`, the track's subscribers can share copies of the packets.
     pub fn pass_frame(
         &mut self,
         track: &Track,
@@ -88,7 +91,7 @@ impl Feed {
         let number = offer.number();
         let verdict = self.selector.admit_offered(offer, self.ring.queued());
         if let Verdict::Passed = verdict {
-            // A constant, so that the verdict isn't tested again.
+            // These calls get a constant verdict, so that the verdict isn't tested again.
             self.causes.write(number, Verdict::Passed);
             self.counts.frames.count(Verdict::Passed);
             let is_top = self.selector.marks_last();
@@ -104,7 +107,8 @@ impl Feed {
         }
     }
 
-    /// Takes the oldest queued packet: replaces the contents of `out` with it, and returns true. Returns false if no packet is queued.
+    /// Removes the oldest packet from the queue, replaces the contents of `out` with this packet, and returns true. Returns false and changes nothing
+    /// if the queue is empty.
     pub fn take(&mut self, out: &mut PacketBuf) -> bool
         ensures follows { FollowsTake self.old self.new result out.old out.new }
         ensures unchanged { result ≡ false → self.new ≡ self.old }
@@ -120,23 +124,25 @@ impl Feed {
         }
     }
 
-    /// Ends the subscriber, and releases the packets that it shared to `cache`. `left` subscribers remain on the track.
+    /// Ends the feed, and releases its shared packets to `cache`. `left` is the number of subscribers that remain on the track.
     pub fn give_back(self, cache: &mut FrameCache, left: usize)
-        ensures { cache.new.store.all ≤ cache.old.store.all }
+        ensures all { cache.new.store.all ≤ cache.old.store.all }
+        ensures kept { capacity_for left ≤ cache.old.store.all → capacity_for left ≤ cache.new.store.all }
+        ensures freed { cache.new.store.all ≤ cache.old.store.all - min cache.old.store.free (cache.old.store.all - capacity_for left) }
     {
         let Feed { ring, .. } = self;
         cache.release(ring, left);
     }
 
-    /// Whether there is no current target.
+    /// Returns whether the subscriber has no current target.
     pub fn has_no_target(&self) -> bool
         ensures target { HasNoTarget self.now result }
     {
         self.selector.target().is_none()
     }
 
-    /// Returns why the frame with this unwrapped number was or wasn't passed. `Ahead`: the number is above the newest frame's, or no frame came since the join.
-    /// `TooOld`: the number is 4,096 or more below the newest frame's.
+    /// Returns the reason why the frame with this unwrapped number was or wasn't forwarded. `Ahead`: the number is above the newest frame's, or no
+    /// frame has come since the join. `TooOld`: the number is 4,096 or more below the newest frame's.
     pub fn why(&self, number: u64) -> Result<Verdict, Refusal>
         ensures tells { Tells self.now number result }
         ensures fed { IsFed result }
@@ -144,7 +150,8 @@ impl Feed {
         self.causes.verdict(number)
     }
 
-    /// Replaces the contents of `out` with the packet that was taken under this sequence number. `NotKept`: it isn't among the last 1,024 taken.
+    /// Replaces the contents of `out` with the packet that was taken with this sequence number. `NotKept`: none of the last 1,024 taken packets has
+    /// this sequence number.
     pub fn resend(&self, seq: u16, out: &mut PacketBuf) -> Result<(), Refusal>
         ensures resends { Resends self.now seq result out.old out.new }
         ensures fed { IsFed result }
@@ -155,7 +162,7 @@ impl Feed {
     }
 }
 
-// Whether the first packet of a passed frame is sent with the mask of the subscriber's targets.
+// Returns whether the first packet of a forwarded frame is sent with the mask of the subscriber's targets.
 fn is_told(opened: bool, tells: bool) -> bool
     ensures { result ≡ (opened || tells) }
 {

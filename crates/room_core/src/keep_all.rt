@@ -1,4 +1,4 @@
-// A recorder that keeps all calls.
+// A recorder that stores all calls.
 ghost use Rattle.std.specs.Prelude.{◌≡◌, ◌==◌, ◌<◌, Some, [], length, slice_get};
 ghost use Rattle.std.specs.Option.{option_map};
 ghost use Rattle.room_core.specs.Kept.{call_by, seat_by};
@@ -9,7 +9,8 @@ use sfu_base::{Call, NoMemory};
 use std::alloc::Global;
 use std::marker::Model;
 
-/// Keeps the seats and calls of a room, the oldest first, except calls that ran out of memory. Contracts see this list.
+/// A recorder that stores the calls of a room and their seats, the oldest first. A call that runs out of memory isn't stored. Contracts see the list
+/// of stored calls and seats.
 #[derive(Drop)]
 pub struct KeepAll {
     notes: Vec<Note>,
@@ -26,7 +27,7 @@ impl Model for KeepAll {
 }
 
 impl KeepAll {
-    /// A recorder that has kept nothing yet. Allocates no memory.
+    /// Creates a recorder without stored calls. Allocates no memory.
     pub fn new(alloc: Global) -> KeepAll
         ensures empty { result ≡ [] }
         ensures noted { ⟦<KeepAll as Recorder>⟧.noted result ≡ Some [] }
@@ -36,21 +37,21 @@ impl KeepAll {
         }
     }
 
-    /// How many calls are kept.
+    /// Returns the number of stored calls.
     pub fn len(&self) -> usize
         ensures { result ≡ length self.now }
     {
         self.notes.len()
     }
 
-    /// Whether no call is kept.
+    /// Returns whether no call is stored.
     pub fn is_empty(&self) -> bool
         ensures { result ≡ (length self.now == 0) }
     {
         self.notes.is_empty()
     }
 
-    /// The seat of the call at this place, counted from 0.
+    /// Returns the seat of the stored call at this place. Places count from 0 at the oldest call.
     pub fn seat(&self, place: usize) -> u32
         requires { place < length self.now }
         ensures { Some result ≡ option_map seat_by (slice_get self.now place) }
@@ -58,7 +59,7 @@ impl KeepAll {
         self.notes[place].seat
     }
 
-    /// The call at this place, counted from 0.
+    /// Returns the stored call at this place. Places count from 0 at the oldest call.
     pub fn call(&self, place: usize) -> &Call
         requires { place < length self.now }
         ensures { Some result.now ≡ option_map call_by (slice_get self.now place) }

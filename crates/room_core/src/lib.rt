@@ -1,5 +1,5 @@
-//! The room: who publishes and who subscribes, what each subscriber is sent, and the reply to each call. The room's contracts are about the
-//! history of all calls on it; only a recorder stores that history.
+//! A room forwards the packets of publishers to subscribers. It determines the packets that are sent to each subscriber, and the reply to each call.
+//! The room's contracts describe the history of all calls on the room. The room doesn't store this history; a recorder can store it.
 #![tactic(auto)]
 
 mod beginning;
@@ -18,7 +18,6 @@ mod recorder;
 mod refusals;
 mod room;
 mod sending;
-mod serving;
 mod subscribers;
 mod table;
 #[cfg(test)]

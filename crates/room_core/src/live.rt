@@ -1,4 +1,4 @@
-// What is live in a room.
+// The live tracks and live subscribers of a room.
 ghost use Rattle.std.specs.Prelude.{◌≡◌, ◌≤◌, []};
 ghost use Rattle.indexmap.specs.IndexMap.{index_map_len};
 
@@ -9,9 +9,9 @@ use place_set::PlaceSet;
 use sfu_base::Kind;
 use track_core::Track;
 
-/// A live track: its kind, whether a plea for a key frame is pending, its pipeline, the cache of its current frame, and the places of its subscribers
-/// in their table. Between calls no item of the pipeline waits. The large parts are on the heap, so that a room is small: a lock moves the room twice
-/// per turn.
+/// A live track. `pleaded` is true while a key frame request is pending. `frame_cache` is the cache of the current frame, and `places` has the places
+/// of the track's subscribers in the table of subscribers. Between calls, no item of the pipeline waits. The large parts are on the heap, so that a
+/// room is small, because a lock moves the room twice per turn.
 #[derive(Drop)]
 pub struct LiveTrack {
     pub kind: Kind,
@@ -22,8 +22,8 @@ pub struct LiveTrack {
     ghost idle: { pipeline.value.window.waiting ≡ [] },
 }
 
-/// A live subscriber: the number of its track, what it is sent, and how many packets it got once more. The feed is on the heap, so that the
-/// entries of the table are small: a leave moves one entry, and `count_on` reads all.
+/// A live subscriber. `track` is the number of the subscriber's track, and `resent` is the number of packets that were retransmitted to the
+/// subscriber. The feed is on the heap, so that the table's entries are small, because a leave moves one entry, and `count_on` reads all entries.
 #[derive(Drop)]
 pub struct LiveSubscriber {
     pub track: u32,
@@ -31,16 +31,7 @@ pub struct LiveSubscriber {
     pub resent: u64,
 }
 
-/// What is prepared for a call before anything changes: the pipeline and the frame cache of an accepted publish, the feed of an accepted
-/// join, or nothing.
-#[derive(Drop)]
-pub enum Ready {
-    Nothing,
-    Pipeline(Box<Track>, Box<FrameCache>),
-    Sent(Box<Feed>),
-}
-
-/// How many of these subscribers belong to this track.
+/// Returns how many of these subscribers belong to this track.
 pub fn count_on(subscribers: &IndexMap<u32, LiveSubscriber>, track: u32) -> usize
     ensures { result ≤ index_map_len subscribers.now }
 {

@@ -1,4 +1,4 @@
-// Offers what a track makes to each of its subscribers.
+// Offers the packets and frames of a track to each of the track's subscribers.
 ghost use Rattle.std.specs.Prelude.{◌≡◌, ◌≤◌, ◌&&◌, ◌∷◌, [], None, nat_eq, not, length};
 ghost use Rattle.indexmap.specs.IndexMap.{get, index_map_len};
 ghost use Rattle.rtp_packet.specs.Faults.{first_fault};
@@ -20,7 +20,8 @@ use sfu_base::FrameMeaning;
 use target_selector::FrameOffer;
 use track_core::{Advance, Track};
 
-/// Processes all waiting items of a track, and offers the packets or frames that they make to each of its subscribers. A key frame ends a plea.
+/// Processes all waiting items of a track, and offers the resulting packets or frames to each of the track's subscribers. A complete key frame ends a
+/// pending key frame request.
 pub fn work_off(
     pipeline: &mut Track,
     pleaded: &mut bool,
@@ -37,7 +38,8 @@ pub fn work_off(
     while work_off_one(pipeline, pleaded, number, subscribers, places, cache) {}
 }
 
-// Processes one item, and returns whether one waited. Out of line: mostly one item waits, and a loop would prepare for more.
+// Processes one item, and returns true. Returns false if no item waits. This function isn't inlined into the loop, because mostly only one item
+// waits, and an inlined loop would prepare for more items.
 #[inline(never)]
 fn work_off_one(
     pipeline: &mut Track,
@@ -68,7 +70,7 @@ fn work_off_one(
     }
 }
 
-// One step of a track, with a contract about the track's items.
+// Advances the track by one item. The contract describes this step by the track's items.
 fn step(pipeline: &mut Track) -> Advance
     ensures steps { Steps pipeline.old pipeline.new (with_meaning pipeline.new.meaning result) }
     ensures valid { IsMadeValid (with_meaning pipeline.new.meaning result) pipeline.new.packets }
@@ -76,14 +78,14 @@ fn step(pipeline: &mut Track) -> Advance
     pipeline.advance()
 }
 
-// A key frame ends a plea.
+// Returns whether a key frame request is still pending after a frame. A key frame ends the request.
 fn still_pleaded(pleaded: bool, key: bool) -> bool
     ensures { result ≡ (pleaded && not key) }
 {
     pleaded && !key
 }
 
-// Offers the packet that a plain track made last to each subscriber of the track.
+// Offers the last packet of a plain track to each of the track's subscribers.
 fn pass_packet_to_all(
     subscribers: &mut IndexMap<u32, LiveSubscriber>,
     places: &PlaceSet,
@@ -108,7 +110,7 @@ fn pass_packet_to_all(
     }
 }
 
-// Offers the packet to this subscriber, if it is one of the track's.
+// Offers the packet to this subscriber, if the subscriber belongs to the track.
 fn pass_packet(subscriber: &mut LiveSubscriber, number: u32, packet: &[u8], cache: &mut FrameCache)
     requires reads { first_fault packet.now ≡ None }
     requires fits { length packet.now ≤ 1500 }
@@ -121,7 +123,7 @@ fn pass_packet(subscriber: &mut LiveSubscriber, number: u32, packet: &[u8], cach
     }
 }
 
-// Offers the frame that a layered track made last to each of its subscribers. Out of line: the loop has the registers for itself.
+// Offers the last frame of a layered track to each of the track's subscribers. This function isn't inlined, so that its loop has all registers.
 #[inline(never)]
 fn pass_frame_to_all(
     subscribers: &mut IndexMap<u32, LiveSubscriber>,
@@ -149,7 +151,7 @@ fn pass_frame_to_all(
     }
 }
 
-// Offers the frame to this subscriber, if it is one of the track's.
+// Offers the frame to this subscriber, if the subscriber belongs to the track.
 fn pass_frame(
     subscriber: &mut LiveSubscriber,
     number: u32,
@@ -169,7 +171,7 @@ fn pass_frame(
     }
 }
 
-/// Whether at least one subscriber of a track has no current target.
+/// Returns whether at least one subscriber of a track has no current target.
 pub fn waits(subscribers: &IndexMap<u32, LiveSubscriber>, places: &PlaceSet, number: u32) -> bool
     requires { HasPlaces places.now number (tracks_of subscribers.now.entries) }
     ensures { WaitsIn result number (get nat_eq subscribers.now) }

@@ -1,4 +1,4 @@
-// Which subscribers of a track have packets queued. The question is no entry of the history.
+// The query for the subscribers of a track that have queued packets. This query adds no entry to the history.
 ghost use Rattle.std.specs.Prelude.{◌≡◌, ◌≤◌, ◌∷◌, ◌++◌, [], List, cond, drop, length, nat_eq, take};
 ghost use Rattle.indexmap.specs.IndexMap.{IsUnique};
 ghost use Rattle.sfu_base.specs.declared.call.Call.{Call};
@@ -14,9 +14,10 @@ use crate::room::Room;
 use indexmap::IndexMap;
 
 impl<R: Recorder> Room<R> {
-    /// Writes to `numbers` the numbers of the track's subscribers that have packets queued, each once, in no particular order, and as many as fit.
-    /// Returns how many it wrote: if fewer than `numbers` has places for, these are all. A subscriber of a track that ended counts until it leaves. This
-    /// query adds no entry to the history, changes nothing, and allocates no memory. Own rule.
+    /// Writes the numbers of the track's subscribers that have queued packets to the start of `numbers`, each number once and in no particular order.
+    /// Stops when `numbers` is full. Returns how many numbers it wrote. If the result is below the length of `numbers`, no number is left out. A
+    /// subscriber of a track that has ended is listed until the subscriber leaves. This query adds no entry to the history, changes nothing, and
+    /// allocates no memory. Own rule.
     pub fn ready(&self, track: u32, numbers: &mut [u32]) -> usize
         ensures ready { (history : List Entry) → Stands R.noted self.now history
             → AreReady track (length numbers.old) (accepted history) (take result numbers.new) }
@@ -29,7 +30,8 @@ impl<R: Recorder> Room<R> {
 }
 
 impl Content {
-    /// Writes the numbers of the track's subscribers that have packets queued, as many as fit, and returns how many it wrote.
+    /// Writes the numbers of the track's subscribers that have queued packets to `numbers`, until `numbers` is full. Returns how many numbers it
+    /// wrote.
     pub fn ready(&self, track: u32, numbers: &mut [u32]) -> usize
         ensures ready { (past : List Call) → IsAfter self.now past → AreReady track (length numbers.old) past (take result numbers.new) }
         ensures within { result ≤ length numbers.new }
@@ -40,7 +42,7 @@ impl Content {
     }
 }
 
-// The same in the table's order.
+// Does the same, and writes the numbers in the order of the table.
 fn list_ready(subscribers: &IndexMap<u32, LiveSubscriber>, track: u32, numbers: &mut [u32]) -> usize
     ensures unique { IsUnique nat_eq subscribers.now }
     ensures lists { take result numbers.new ≡ take (length numbers.old) (ready_in track subscribers.now.entries) }
@@ -63,7 +65,7 @@ fn is_ready(subscriber: &LiveSubscriber, track: u32) -> bool
     subscriber.track == track && subscriber.feed.ring.queued() > 0
 }
 
-// Writes the number behind the first `count`, if it is `ready` and has a place.
+// If `ready` is true and `numbers` isn't full, writes the number after the first `count` numbers. Returns the new count.
 fn put_ready(numbers: &mut [u32], count: usize, number: u32, ready: bool) -> usize
     requires { count ≤ length numbers.old }
     ensures puts { take result numbers.new ≡ take (length numbers.old) (take count numbers.old ++ cond ready (number ∷ []) []) }

@@ -4,15 +4,15 @@ ghost use Rattle.room_core.specs.Noted.{Noted, Notes};
 
 use sfu_base::{Call, NoMemory};
 
-/// Stores the seats and calls of a room, or nothing. Own rule.
+/// A recorder of the calls on a room and of their seats. A recorder stores these notes, or it stores nothing. Own rule.
 pub trait Recorder: Drop {
-    /// Whether [`Recorder::note`] may run out of memory.
+    /// Whether [`Recorder::note`] can run out of memory.
     ghost may_refuse: { Self → Bool };
 
-    /// The seats and calls noted so far, the oldest first. `None` if the recorder doesn't show them.
+    /// The seats and calls noted so far, the oldest first. `None` if the recorder doesn't make them visible to contracts.
     ghost noted: { Self → Option (List Noted) };
 
-    /// Appends a call with its seat. `NoMemory`: out of memory; earlier notes are unchanged then.
+    /// Appends a call with its seat to the notes. Returns `NoMemory` if memory runs out; the earlier notes are then unchanged.
     fn note(&mut self, seat: u32, call: &Call) -> Result<(), NoMemory>
         ensures ok { OnOk result (Notes (noted self.old) (noted self.new) seat call.now) }
         ensures err { OnErr result (noted self.new ≡ noted self.old) }
@@ -20,12 +20,12 @@ pub trait Recorder: Drop {
         ensures same { may_refuse self.new ≡ may_refuse self.old };
 }
 
-/// Stores nothing, and never refuses.
+/// A recorder that stores nothing and never refuses.
 #[derive(Drop)]
 pub struct KeepNone;
 
 impl KeepNone {
-    /// A recorder that stores nothing.
+    /// Creates a recorder that stores nothing.
     pub fn new() -> KeepNone
         ensures may_refuse { ⟦<KeepNone as Recorder>⟧.may_refuse result ≡ false }
         ensures noted { ⟦<KeepNone as Recorder>⟧.noted result ≡ None }

@@ -1,4 +1,4 @@
-// Why a track can't be published, and why a subscriber can't join.
+// The refusals of publishing a track and of joining a subscriber.
 ghost use Rattle.std.specs.Prelude.{◌≡◌, IfSome, false, is_some, nat_eq};
 ghost use Rattle.indexmap.specs.IndexMap.{get, index_map_len};
 ghost use Rattle.sfu_base.specs.Answer.{is_memory};
@@ -8,20 +8,20 @@ ghost use Rattle.room_core.specs.Replies.{is_bad_id};
 use crate::content::Content;
 use sfu_base::{Kind, Refusal};
 
-/// How many tracks are live at most (own rule).
+/// The largest number of live tracks (own rule).
 const MOST_TRACKS: usize = 64;
 
-/// How many subscribers are live at most (own rule).
+/// The largest number of live subscribers (own rule).
 const MOST_SUBSCRIBERS: usize = 256;
 
-/// The id of a header extension element that is padding (RFC 8285, sections 4.2 and 4.3).
+/// The id that stands for padding between header extension elements (RFC 8285, sections 4.2 and 4.3).
 const PADDING_ID: u8 = 0;
 
-/// The id at which a reader of the elements stops (RFC 8285, section 4.2).
+/// The id at which the processing of header extension elements stops (RFC 8285, section 4.2).
 const LAST_ID: u8 = 15;
 
 impl Content {
-    /// The first refusal that applies to publishing this track, if any.
+    /// Returns the first refusal that applies to publishing this track, or `None` if no refusal applies.
     pub fn publish_refusal(&self, track: u32, kind: Kind) -> Option<Refusal>
         ensures fed { IfSome result (λ why. is_memory why ≡ false) }
         ensures refusal { result ≡ refusal_to_publish self.now track kind }
@@ -41,7 +41,7 @@ impl Content {
         None
     }
 
-    /// The first refusal that applies to joining this subscriber, if any.
+    /// Returns the first refusal that applies to joining this subscriber, or `None` if no refusal applies.
     pub fn join_refusal(&self, subscriber: u32, track: u32) -> Option<Refusal>
         ensures fed { IfSome result (λ why. is_memory why ≡ false) }
         ensures refusal { result ≡ refusal_to_join self.now subscriber track }
@@ -62,7 +62,7 @@ impl Content {
     }
 }
 
-// Whether a layered track has the id of padding, or the id that ends processing.
+// Returns whether a layered track has the id of padding, or the id at which processing stops. Returns false for a plain track.
 fn has_bad_id(kind: Kind) -> bool
     ensures { result ≡ is_bad_id kind }
 {

@@ -1,18 +1,18 @@
-// The room.
+// The public calls of a room.
 use crate::content::Content;
 use crate::recorder::Recorder;
 use sfu_base::{Call, Kind, PacketBuf, Refusal, Reply, Scratch, Wish};
 use std::alloc::Global;
 
-/// A room: tracks, each with one publisher's packets, and subscribers, each of one track. `publish` begins a track, `packet` adds a packet to it, and
-/// `tick` advances its time. `join` begins a subscriber, `take` returns its next packet to be sent, and `resend` returns one that was taken before.
-/// Moments and holds are in milliseconds.
+/// A room has tracks and subscribers. Each track has the packets of one publisher, and each subscriber belongs to one track. `publish` begins a
+/// track, `packet` adds a packet to the track, and `tick` advances the track's time. `join` adds a subscriber, `take` returns the next packet to send
+/// to the subscriber, and `resend` returns a packet that was taken before. Moments and hold times are in milliseconds.
 ///
-/// A layered track's packets become frames (RTP Payload Format For AV1, Appendix A), and each subscriber gets those of the best decode target
-/// that its wish allows. A plain track's packets are forwarded in order.
+/// The packets of a layered track are assembled into frames (RTP Payload Format For AV1, Appendix A). Each subscriber gets the frames of the best
+/// decode target that the subscriber's wish allows. The packets of a plain track are forwarded in order.
 ///
-/// A refused call returns the first refusal that applies, and changes nothing except what the recorder stores. With a recorder that never refuses,
-/// only `publish` and `join` may run out of memory. These are own rules.
+/// A refused call returns the first refusal that applies, and changes nothing except what the recorder stores. If the recorder never refuses, only
+/// `publish` and `join` can run out of memory. These rules are own rules.
 #[derive(Drop)]
 pub struct Room<R: Recorder> {
     alloc: Global,
@@ -26,10 +26,9 @@ impl<R: Recorder> Room<R> {
     ghost use Rattle.room_core.specs.Noted.{Noted};
     ghost use Rattle.room_core.specs.History.{Entry, kept};
     ghost use Rattle.room_core.specs.Serves.{DoesAsServe, ServesInto, Stands, recorder_may_refuse};
-    ghost use Rattle.room_core.specs.Silent.{IsSilent};
     ghost use Rattle.room_core.specs.Kinds.{IsKindOf};
 
-    /// A room on which no call was made, with a recorder that has recorded nothing yet. Allocates no memory.
+    /// Creates a room on which no call has been made. The recorder must have recorded nothing yet. Allocates no memory.
     pub fn new(alloc: Global, recorder: R) -> Room<R>
         requires { IfSome (R.noted recorder) (λ notes. notes ≡ []) }
         ensures stands { Stands R.noted result [] }
@@ -42,79 +41,87 @@ impl<R: Recorder> Room<R> {
         }
     }
 
-    /// Serves one call from a seat. Each method from `publish` to `why` does the same for one kind of call. After the reply `Packet` the bytes are in
-    /// `scratch.packet`, after `Names` the sequence numbers are in `scratch.names`. No other reply changes the scratch.
+    /// Serves one call from a seat. Each method from `publish` to `why` does the same for one kind of call. If the reply is `Packet`, the packet's
+    /// bytes are in `scratch.packet`. If the reply is `Names`, the sequence numbers are in `scratch.names`. Any other reply leaves the scratch
+    /// unchanged.
     pub fn serve(&mut self, seat: u32, call: &Call, scratch: &mut Scratch) -> Reply
         ensures { ServesInto R.noted R.may_refuse self.old self.new seat call.now result scratch.old scratch.new }
     {
+        // Most calls are `Packet`, `Tick` or `Take`. The methods for other calls aren't inlined, because they would take registers and stack from
+        // these three calls.
         match call {
-            // Most calls are of these three kinds, for which nothing has to be prepared.
-            Call::Take { subscriber } => self.take(seat, *subscriber, scratch),
+            Call::Publish {
+                track,
+                kind,
+                ssrc,
+                hold,
+            } => self.publish(seat, *track, *kind, *ssrc, *hold),
+            Call::Unpublish { track } => self.unpublish(seat, *track),
             Call::Packet {
                 track,
                 moment,
                 bytes,
             } => self.serve_packet(seat, call, *track, *moment, bytes),
             Call::Tick { track, moment } => self.tick(seat, *track, *moment),
-            _ => self.serve_any(seat, call, scratch),
+            Call::Join {
+                subscriber,
+                track,
+                ssrc,
+                first,
+                wish,
+            } => self.join(seat, *subscriber, *track, *ssrc, *first, *wish),
+            Call::Leave { subscriber } => self.leave(seat, *subscriber),
+            Call::Aim { subscriber, wish } => self.aim(seat, *subscriber, *wish),
+            Call::Take { subscriber } => self.take(seat, *subscriber, scratch),
+            Call::Resend { subscriber, seq } => self.resend(seat, *subscriber, *seq, scratch),
+            Call::Missing { track } => self.missing(seat, *track, scratch),
+            Call::KeyWanted { track } => self.key_wanted(seat, *track),
+            Call::Plead { subscriber } => self.plead(seat, *subscriber),
+            Call::Why { subscriber, number } => self.why(seat, *subscriber, *number),
         }
     }
 
-    // As `serve`, for a call of any kind.
-    fn serve_any(&mut self, seat: u32, call: &Call, scratch: &mut Scratch) -> Reply
-        ensures { ServesInto R.noted R.may_refuse self.old self.new seat call.now result scratch.old scratch.new }
-    {
-        match self.content.prepare(self.alloc, call) {
-            Ok(ready) => match self.recorder.note(seat, call) {
-                Ok(()) => self.content.serve(call, ready, scratch),
-                Err(_) => Reply::Refused(Refusal::NoMemory),
-            },
-            Err(_) => Reply::Refused(Refusal::NoMemory),
-        }
-    }
-
-    // As `serve`, for a call whose reply changes no scratch.
-    fn serve_silently(&mut self, seat: u32, call: &Call) -> Reply
-        requires { IsSilent call.now }
-        ensures { DoesAsServe R.noted R.may_refuse self.old self.new seat call.now result }
-    {
-        match self.content.prepare(self.alloc, call) {
-            Ok(ready) => match self.recorder.note(seat, call) {
-                Ok(()) => self.content.serve_silently(call, ready),
-                Err(_) => Reply::Refused(Refusal::NoMemory),
-            },
-            Err(_) => Reply::Refused(Refusal::NoMemory),
-        }
-    }
-
-    /// Begins a track, as [`Call::Publish`] does. `NumberUsed`: the number is at most the highest that a track ever had, which is 0 before
-    /// the first. `TooMany`: 64 tracks are live. `BadExtensionId`: the id of a layered track's header extension element is 0 or 15. `NoMemory`:
-    /// out of memory, and no other refusal applies.
+    /// Begins a track, as [`Call::Publish`] does. `NumberUsed`: the number isn't above the highest number of any earlier track, or the number is 0.
+    /// `TooMany`: 64 tracks are live already. `BadExtensionId`: the id of a layered track's header extension element is 0 or 15. `NoMemory`: memory
+    /// ran out, and no other refusal applies.
+    #[inline(never)]
     pub fn publish(&mut self, seat: u32, track: u32, kind: Kind, ssrc: u32, hold: u32) -> Reply
         ensures { DoesAsServe R.noted R.may_refuse self.old self.new seat (call.Publish track kind ssrc hold) result }
     {
-        self.serve_silently(
-            seat,
-            &Call::Publish {
-                track,
-                kind,
-                ssrc,
-                hold,
+        let call = Call::Publish {
+            track,
+            kind,
+            ssrc,
+            hold,
+        };
+        match self
+            .content
+            .prepare_track(self.alloc, track, kind, ssrc, hold)
+        {
+            Ok(ready) => match self.recorder.note(seat, &call) {
+                Ok(()) => self.content.publish(track, ready),
+                Err(_) => Reply::Refused(Refusal::NoMemory),
             },
-        )
+            Err(_) => Reply::Refused(Refusal::NoMemory),
+        }
     }
 
-    /// Ends a track, as [`Call::Unpublish`] does. Its subscribers stay: `take`, `resend`, `aim` and `why` work as before. `NoTrack`: no live track
-    /// has the number.
+    /// Ends a track, as [`Call::Unpublish`] does. The track's subscribers stay, and `take`, `resend`, `aim` and `why` work for them as before.
+    /// `NoTrack`: no live track has the number.
+    #[inline(never)]
     pub fn unpublish(&mut self, seat: u32, track: u32) -> Reply
         ensures { DoesAsServe R.noted R.may_refuse self.old self.new seat (call.Unpublish track) result }
     {
-        self.serve_silently(seat, &Call::Unpublish { track })
+        match self.recorder.note(seat, &Call::Unpublish { track }) {
+            Ok(()) => self.content.unpublish(track),
+            Err(_) => Reply::Refused(Refusal::NoMemory),
+        }
     }
 
-    /// Adds a packet that arrives at `moment` to a track, as [`Call::Packet`] does. The recorder gets a copy. `NoTrack`: no live track has the
-    /// number. `TooBig`: more than 1,500 bytes. `Unreadable`: not RTP. `WrongSsrc`: another SSRC than the track's. `Spent`: the unwrapped sequence
-    /// number is 2^46 or more. `Late`: it is below the number that the track waits for. `Repeat`: it is buffered already.
+    /// Adds a packet that arrives at `moment` to a track, as [`Call::Packet`] does. The recorder gets a copy of the packet. `NoTrack`: no live track
+    /// has the number. `TooBig`: the packet has more than 1,500 bytes. `Unreadable`: the bytes aren't an RTP packet. `WrongSsrc`: the packet's SSRC
+    /// isn't the track's. `Spent`: the packet's unwrapped sequence number is 2^46 or more. `Late`: the unwrapped number is below the lowest number
+    /// for which the track waits. `Repeat`: a packet with this number is buffered already.
     pub fn packet(&mut self, seat: u32, track: u32, moment: u64, bytes: &PacketBuf) -> Reply
         ensures { DoesAsServe R.noted R.may_refuse self.old self.new seat (call.Packet track moment bytes.now) result }
     {
@@ -128,7 +135,8 @@ impl<R: Recorder> Room<R> {
         self.serve_packet(seat, &call, track, moment, bytes)
     }
 
-    // As `packet`, for a call that is made already, with its fields beside it.
+    // Does the same as `packet`. `made` is the call, and the other parameters are the call's fields.
+    #[inline(always)]
     fn serve_packet(
         &mut self,
         seat: u32,
@@ -146,8 +154,8 @@ impl<R: Recorder> Room<R> {
         }
     }
 
-    /// Advances a track's time to `moment`, as [`Call::Tick`] does. A gap is given up once the packet behind it was held for the track's hold.
-    /// `NoTrack`: no live track has the number.
+    /// Advances a track's time to `moment`, as [`Call::Tick`] does. A gap is given up when the packet after the gap has been buffered for the track's
+    /// hold time. `NoTrack`: no live track has the number.
     pub fn tick(&mut self, seat: u32, track: u32, moment: u64) -> Reply
         ensures { DoesAsServe R.noted R.may_refuse self.old self.new seat (call.Tick track moment) result }
     {
@@ -157,8 +165,10 @@ impl<R: Recorder> Room<R> {
         }
     }
 
-    /// Begins a subscriber, as [`Call::Join`] does. `NoTrack`: no live track has the number. `NumberUsed`: the number is at most the highest
-    /// that a subscriber ever had. `TooMany`: 256 subscribers are live. `NoMemory`: out of memory, and no other refusal applies.
+    /// Adds a subscriber to a track, as [`Call::Join`] does. `NoTrack`: no live track has the number. `NumberUsed`: the number isn't above the
+    /// highest number of any earlier subscriber, or the number is 0. `TooMany`: 256 subscribers are live already. `NoMemory`: memory ran out, and no
+    /// other refusal applies.
+    #[inline(never)]
     pub fn join(
         &mut self,
         seat: u32,
@@ -170,34 +180,49 @@ impl<R: Recorder> Room<R> {
     ) -> Reply
         ensures { DoesAsServe R.noted R.may_refuse self.old self.new seat (call.Join subscriber track ssrc first wish) result }
     {
-        self.serve_silently(
-            seat,
-            &Call::Join {
-                subscriber,
-                track,
-                ssrc,
-                first,
-                wish,
+        let call = Call::Join {
+            subscriber,
+            track,
+            ssrc,
+            first,
+            wish,
+        };
+        match self
+            .content
+            .prepare_subscriber(self.alloc, subscriber, track, ssrc, first, wish)
+        {
+            Ok(ready) => match self.recorder.note(seat, &call) {
+                Ok(()) => self.content.join(subscriber, ready),
+                Err(_) => Reply::Refused(Refusal::NoMemory),
             },
-        )
+            Err(_) => Reply::Refused(Refusal::NoMemory),
+        }
     }
 
-    /// Ends a subscriber, as [`Call::Leave`] does. `NoSubscriber`: no live subscriber has the number.
+    /// Removes a subscriber from its track, as [`Call::Leave`] does. `NoSubscriber`: no live subscriber has the number.
+    #[inline(never)]
     pub fn leave(&mut self, seat: u32, subscriber: u32) -> Reply
         ensures { DoesAsServe R.noted R.may_refuse self.old self.new seat (call.Leave subscriber) result }
     {
-        self.serve_silently(seat, &Call::Leave { subscriber })
+        match self.recorder.note(seat, &Call::Leave { subscriber }) {
+            Ok(()) => self.content.leave(subscriber),
+            Err(_) => Reply::Refused(Refusal::NoMemory),
+        }
     }
 
     /// Changes a subscriber's wish, as [`Call::Aim`] does. `NoSubscriber`: no live subscriber has the number.
+    #[inline(never)]
     pub fn aim(&mut self, seat: u32, subscriber: u32, wish: Wish) -> Reply
         ensures { DoesAsServe R.noted R.may_refuse self.old self.new seat (call.Aim subscriber wish) result }
     {
-        self.serve_silently(seat, &Call::Aim { subscriber, wish })
+        match self.recorder.note(seat, &Call::Aim { subscriber, wish }) {
+            Ok(()) => self.content.aim(subscriber, wish),
+            Err(_) => Reply::Refused(Refusal::NoMemory),
+        }
     }
 
-    /// Takes the oldest packet that is queued for a subscriber, as [`Call::Take`] does: replies `Packet`, with the bytes in `scratch.packet`.
-    /// `NoSubscriber`: no live subscriber has the number. `Empty`: no packet is queued.
+    /// Removes the oldest packet from a subscriber's queue, as [`Call::Take`] does. Replies `Packet`, and writes the packet's bytes to
+    /// `scratch.packet`. `NoSubscriber`: no live subscriber has the number. `Empty`: the queue is empty.
     pub fn take(&mut self, seat: u32, subscriber: u32, scratch: &mut Scratch) -> Reply
         ensures { ServesInto R.noted R.may_refuse self.old self.new seat (call.Take subscriber) result scratch.old scratch.new }
     {
@@ -207,49 +232,72 @@ impl<R: Recorder> Room<R> {
         }
     }
 
-    /// Returns a packet once more, by the sequence number with which it was taken, as [`Call::Resend`] does: replies `Packet`, with the bytes in
-    /// `scratch.packet` (RFC 4585, section 6.2.1). `NoSubscriber`: no live subscriber has the number. `NotKept`: none of the last 1,024 packets taken
-    /// has the sequence number.
+    /// Retransmits the packet that the subscriber took with this sequence number, as [`Call::Resend`] does (RFC 4585, section 6.2.1). Replies
+    /// `Packet`, and writes the packet's bytes to `scratch.packet`. `NoSubscriber`: no live subscriber has the number. `NotKept`: none of the
+    /// subscriber's last 1,024 taken packets has this sequence number.
+    #[inline(never)]
     pub fn resend(&mut self, seat: u32, subscriber: u32, seq: u16, scratch: &mut Scratch) -> Reply
         ensures { ServesInto R.noted R.may_refuse self.old self.new seat (call.Resend subscriber seq) result scratch.old scratch.new }
     {
-        self.serve(seat, &Call::Resend { subscriber, seq }, scratch)
+        match self.recorder.note(seat, &Call::Resend { subscriber, seq }) {
+            Ok(()) => self.content.resend(subscriber, seq, &mut scratch.packet),
+            Err(_) => Reply::Refused(Refusal::NoMemory),
+        }
     }
 
-    /// Returns the sequence numbers that a track waits for, ascending in their unwrapped order, as [`Call::Missing`] does: replies `Names`, with the
-    /// numbers in `scratch.names`. `NoTrack`: no live track has the number.
+    /// Lists the sequence numbers of the packets for which a track waits, as [`Call::Missing`] does. Replies `Names`, and writes the numbers to
+    /// `scratch.names`, in ascending order of the unwrapped numbers. `NoTrack`: no live track has the number.
+    #[inline(never)]
     pub fn missing(&mut self, seat: u32, track: u32, scratch: &mut Scratch) -> Reply
         ensures { ServesInto R.noted R.may_refuse self.old self.new seat (call.Missing track) result scratch.old scratch.new }
     {
-        self.serve(seat, &Call::Missing { track }, scratch)
+        match self.recorder.note(seat, &Call::Missing { track }) {
+            Ok(()) => self.content.missing(track, &mut scratch.names),
+            Err(_) => Reply::Refused(Refusal::NoMemory),
+        }
     }
 
-    /// Returns whether a track's publisher should be asked for a key frame, as [`Call::KeyWanted`] does. True if the track is layered, and a plea is
-    /// pending or a live subscriber of the track has no target. `NoTrack`: no live track has the number.
+    /// Returns whether a key frame should be requested from a track's publisher, as [`Call::KeyWanted`] does. The result is true if the track is
+    /// layered and at least one of two conditions holds: a key frame request is pending, or a live subscriber of the track has no current target.
+    /// `NoTrack`: no live track has the number.
+    #[inline(never)]
     pub fn key_wanted(&mut self, seat: u32, track: u32) -> Reply
         ensures { DoesAsServe R.noted R.may_refuse self.old self.new seat (call.KeyWanted track) result }
     {
-        self.serve_silently(seat, &Call::KeyWanted { track })
+        match self.recorder.note(seat, &Call::KeyWanted { track }) {
+            Ok(()) => self.content.key_wanted(track),
+            Err(_) => Reply::Refused(Refusal::NoMemory),
+        }
     }
 
-    /// Requests a key frame, as [`Call::Plead`] does (RFC 4585, section 6.3.1): the plea is pending until the track's next whole key frame.
-    /// `NoSubscriber`: no live subscriber has the number. `NoTrack`: the subscriber's track ended. `Plain`: that track is plain.
+    /// Requests a key frame for a subscriber, as [`Call::Plead`] does (RFC 4585, section 6.3.1). The request is pending until the track's next
+    /// complete key frame. `NoSubscriber`: no live subscriber has the number. `NoTrack`: the subscriber's track ended. `Plain`: the subscriber's
+    /// track is plain.
+    #[inline(never)]
     pub fn plead(&mut self, seat: u32, subscriber: u32) -> Reply
         ensures { DoesAsServe R.noted R.may_refuse self.old self.new seat (call.Plead subscriber) result }
     {
-        self.serve_silently(seat, &Call::Plead { subscriber })
+        match self.recorder.note(seat, &Call::Plead { subscriber }) {
+            Ok(()) => self.content.plead(subscriber),
+            Err(_) => Reply::Refused(Refusal::NoMemory),
+        }
     }
 
-    /// Returns why a frame was or wasn't passed to a subscriber, as [`Call::Why`] does. `NoSubscriber`: no live subscriber has the number.
-    /// `Ahead`: the frame number is above the newest frame's, or no frame came since the join. `TooOld`: it is 4,096 or more below the newest frame's.
+    /// Returns the reason why a frame was or wasn't forwarded to a subscriber, as [`Call::Why`] does. `NoSubscriber`: no live subscriber has the
+    /// number. `Ahead`: the frame number is above the newest frame's, or no frame has come since the join. `TooOld`: the frame number is 4,096 or
+    /// more below the newest frame's.
+    #[inline(never)]
     pub fn why(&mut self, seat: u32, subscriber: u32, number: u64) -> Reply
         ensures { DoesAsServe R.noted R.may_refuse self.old self.new seat (call.Why subscriber number) result }
     {
-        self.serve_silently(seat, &Call::Why { subscriber, number })
+        match self.recorder.note(seat, &Call::Why { subscriber, number }) {
+            Ok(()) => self.content.why(subscriber, number),
+            Err(_) => Reply::Refused(Refusal::NoMemory),
+        }
     }
 
-    /// The kind that the subscriber's track had when the subscriber joined, even if the track has ended. This query adds no entry to the history, and
-    /// allocates no memory. `NoSubscriber`: no live subscriber has the number.
+    /// Returns the kind of the track that the subscriber joined, even if this track has ended. This query adds no entry to the history, and allocates
+    /// no memory. `NoSubscriber`: no live subscriber has the number.
     pub fn kind_of(&self, subscriber: u32) -> Result<Kind, Refusal>
         ensures kind { (history : List Entry) → Stands R.noted self.now history → IsKindOf history subscriber result }
     {
@@ -259,7 +307,7 @@ impl<R: Recorder> Room<R> {
         }
     }
 
-    /// The recorder, with what it recorded.
+    /// Ends the room, and returns its recorder with everything that it recorded.
     pub fn into_recorder(self) -> R
         ensures kept { (history : List Entry) → Stands R.noted self history → IfSome (R.noted result) (λ notes. notes ≡ kept history) }
         ensures recorder { R.may_refuse result ≡ recorder_may_refuse R.may_refuse self }

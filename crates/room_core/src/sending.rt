@@ -15,7 +15,7 @@ use out_ring::OutRing;
 use packet_format::tells;
 use track_core::Track;
 
-/// Whether the first packet of the track's last frame carries a structure or a mask.
+/// Returns whether the first packet of the track's last frame carries a structure or a mask.
 pub fn first_tells(track: &Track) -> bool
     ensures { result ≡ tells_by track.now.layers track.now.packets }
 {
@@ -28,8 +28,8 @@ pub fn first_tells(track: &Track) -> bool
     tells(track.packet(0), id)
 }
 
-/// Queues the packets of the track's last frame from index `from` on. The frame has `count` packets. The last packet's marker is set if `is_top`,
-/// that is if the frame ends the temporal unit for the subscriber's target.
+/// Queues the packets of the track's last frame, beginning with the packet at index `from`. The frame has `count` packets. `is_top` is true if the
+/// frame is the last of the temporal unit for the subscriber's target; the marker of the frame's last packet is then set.
 #[inline(always)]
 pub fn push_from(
     ring: &mut OutRing,
@@ -55,7 +55,7 @@ pub fn push_from(
     }
 }
 
-/// Queues all packets of the track's last frame, the first with this mask. `cache` keeps the first packet for the frame's next
+/// Queues all packets of the track's last frame. The first packet is sent with this mask. `cache` stores this first packet for the frame's next
 /// subscriber.
 #[inline(never)]
 pub fn push_remasked(
@@ -81,7 +81,7 @@ pub fn push_remasked(
     push_from(ring, cache, track, 1, count, is_top);
 }
 
-// Queues a packet as the first of the track's frame, with this mask.
+// Queues this packet, which is the first packet of the track's frame, with this mask.
 fn push_first(
     ring: &mut OutRing,
     cache: &mut FrameCache,
@@ -101,7 +101,7 @@ fn push_first(
 {
     match track.id() {
         Some(id) => {
-            // The frame's other packets can be shared only if the first one is.
+            // The frame's other packets can be shared only if the first packet is shared.
             cache.share(0, packet);
             push_told(ring, cache, packet, marker, id, track.force(), mask);
         }
@@ -109,7 +109,7 @@ fn push_first(
     }
 }
 
-// Queues a packet with this mask, or unchanged if it can't be remasked.
+// Queues a packet with this mask. If the packet can't be rewritten with the mask, queues it unchanged.
 fn push_told(
     ring: &mut OutRing,
     cache: &mut FrameCache,
@@ -132,7 +132,8 @@ fn push_told(
     cache.queue_remasked(ring, marker);
 }
 
-// The marker with which a packet of a frame is sent: set on the last packet if the frame ends the target's layer, else the packet's own.
+// Returns the marker with which a packet of a frame is sent. The marker is set on the last packet of a frame for which `is_top` is true. All other
+// packets are sent with their own markers.
 fn sent_marker(packet: &[u8], is_top: bool, is_last: bool) -> bool
     requires { first_fault packet.now ≡ None }
     ensures { result ≡ (is_top && is_last || marker_of packet.now) }
@@ -140,7 +141,7 @@ fn sent_marker(packet: &[u8], is_top: bool, is_last: bool) -> bool
     (is_top && is_last) || own_marker(packet)
 }
 
-/// The marker of an RTP packet (RFC 3550, section 5.1): the first bit of its second byte.
+/// Returns the marker bit of an RTP packet, which is the highest bit of the second byte (RFC 3550, section 5.1).
 pub fn own_marker(packet: &[u8]) -> bool
     requires { first_fault packet.now ≡ None }
     ensures { result ≡ marker_of packet.now }

@@ -21,7 +21,7 @@ use indexmap::IndexMap;
 use sfu_base::{Kind, PacketBuf, Refusal, Reply, Wish};
 
 impl Content {
-    /// Ends the subscriber.
+    /// Removes the subscriber.
     pub fn leave(&mut self, subscriber: u32) -> Reply
         ensures does { DoesSilently self.old self.new (call.Leave subscriber) result }
         ensures fed { is_starved result ≡ false }
@@ -53,7 +53,7 @@ impl Content {
         }
     }
 
-    /// Takes the oldest packet that is queued for the subscriber.
+    /// Removes the oldest packet from the subscriber's queue, and writes it to `out`.
     #[inline(always)]
     pub fn take(&mut self, subscriber: u32, out: &mut PacketBuf) -> Reply
         ensures does { (numbers : List ℕ) → Does self.old self.new (call.Take subscriber) result out.new numbers }
@@ -73,12 +73,12 @@ impl Content {
                     Reply::Refused(Refusal::Empty)
                 }
             }
-            // Can't be: the place is one of the table's.
-            None => Reply::Refused(Refusal::NoSubscriber),
+            // `place_of` returns only places that are in the table.
+            None => unreachable!(),
         }
     }
 
-    /// Returns a kept packet of the subscriber once more.
+    /// Writes the packet that the subscriber took with this sequence number to `out`, if the packet is still kept for retransmission.
     pub fn resend(&mut self, subscriber: u32, seq: u16, out: &mut PacketBuf) -> Reply
         ensures does { (numbers : List ℕ) → Does self.old self.new (call.Resend subscriber seq) result out.new numbers }
         ensures fed { is_starved result ≡ false }
@@ -97,7 +97,7 @@ impl Content {
         }
     }
 
-    /// Records that the subscriber requests a key frame.
+    /// Records that the subscriber has requested a key frame.
     pub fn plead(&mut self, subscriber: u32) -> Reply
         ensures does { DoesSilently self.old self.new (call.Plead subscriber) result }
         ensures fed { is_starved result ≡ false }
@@ -119,7 +119,7 @@ impl Content {
         }
     }
 
-    /// Why a frame was or wasn't passed to the subscriber.
+    /// Replies with the reason why a frame was or wasn't forwarded to the subscriber.
     pub fn why(&self, subscriber: u32, number: u64) -> Reply
         ensures does { DoesSilently self.now self.now (call.Why subscriber number) result }
         ensures fed { is_starved result ≡ false }
@@ -134,7 +134,7 @@ impl Content {
         }
     }
 
-    /// The kind that the subscriber's track had when the subscriber joined; `None` if no live subscriber has the number.
+    /// Returns the kind of the track that the subscriber joined, or `None` if no live subscriber has this number.
     pub fn kind_of(&self, subscriber: u32) -> Option<Kind>
         ensures { (past : List Call) → IsAfter self.now past → result ≡ kind_joined (joined subscriber past) past }
     {
@@ -144,8 +144,8 @@ impl Content {
     }
 }
 
-// Ends the feed of the subscriber that left this place: removes the place from the track's set, and releases the packets that the feed
-// shared to the track's cache. `left` subscribers remain on the track.
+// Ends the feed of a removed subscriber. If the track is live, removes the subscriber's place from the track's set of places, and releases the feed's
+// shared packets to the track's cache. `left` is the number of subscribers that remain on the track.
 fn end_feed(
     tracks: &mut IndexMap<u32, LiveTrack>,
     track: u32,

@@ -1,12 +1,12 @@
-// The place of a number's entry in a table.
+// Searches for the place of an entry in a table.
 ghost use Rattle.std.specs.Prelude.{◌≡◌, Some, nat_eq, true};
 ghost use Rattle.indexmap.specs.IndexMap.{get};
 ghost use Rattle.room_core.specs.Tables.{IsPlace};
 
 use indexmap::IndexMap;
 
-/// The index in the table of the entry with this number, if there is one. Tries `likely` and the index after it before it searches: mostly the same
-/// number comes again, or the numbers come in the table's order.
+/// Returns the place of the entry with this number, or `None` if the table has no such entry. Tries the place `likely` and the next place before it
+/// searches, because mostly the same number comes again, or the numbers come in the order of the table.
 pub fn place_of<V>(table: &IndexMap<u32, V>, likely: usize, number: u32) -> Option<usize>
     ensures { IsPlace number table.now.entries (get nat_eq table.now number) result }
 {
@@ -20,7 +20,7 @@ pub fn place_of<V>(table: &IndexMap<u32, V>, likely: usize, number: u32) -> Opti
     table.get_index_of(&number)
 }
 
-// Whether the entry with this number is at this place.
+// Returns whether the entry at this place has this number.
 #[inline(always)]
 fn is_at<V>(table: &IndexMap<u32, V>, place: usize, number: u32) -> bool
     ensures { result ≡ true → IsPlace number table.now.entries (get nat_eq table.now number) (Some place) }

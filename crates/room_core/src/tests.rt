@@ -1,5 +1,5 @@
-// Rooms with plain and layered tracks. A row is calls with their expected replies. The packets are laid out by RFC 3550 and RFC 8285, the
-// descriptors by Appendix A of RTP Payload Format For AV1.
+// Tests of rooms with plain and layered tracks. A row lists calls with their expected replies. The packets have the formats of RFC 3550 and RFC 8285.
+// The descriptors have the format of Appendix A of RTP Payload Format For AV1.
 ghost use Rattle.std.specs.Prelude.{◌≤◌, length};
 
 mod counts;
@@ -28,20 +28,22 @@ const HIGHEST: Wish = Wish {
     temporal: 1,
 };
 
-// Payload type 96, sequence number 1, SSRC 11111111, payload aabb.
+// A packet with payload type 96, sequence number 1, SSRC 11111111, and payload aabb.
 const PLAIN: [u8; 14] = [
     0x80, 0x60, 0, 1, 0, 0, 0, 0, 0x11, 0x11, 0x11, 0x11, 0xaa, 0xbb,
 ];
 
-// Sequence number 0, SSRC 11111111. The element of id 4 begins and ends frame 0, by template 0, and has a structure of two spatial and two
-// temporal layers. Templates 0 to 2 are of the lower spatial layer: key frame, first and second temporal layer; 3 to 5 of the higher one.
+// A packet with sequence number 0 and SSRC 11111111. The header extension element with id 4 has the descriptor. The packet is the first and last of
+// frame 0, which has template 0. The structure has two spatial and two temporal layers. Templates 0 to 2 are for the lower spatial layer, and
+// templates 3 to 5 for the higher one. For each spatial layer, the first template is for key frames, and the other two are for the first and the
+// second temporal layer.
 const KEY: [u8; 47] = [
     0x90, 0x60, 0, 0, 0, 0, 0, 0, 0x11, 0x11, 0x11, 0x11, 0x10, 0x00, 0, 7, 4, 25, 0xc0, 0, 0,
     0x80, 0x03, 0x18, 0x7f, 0xaf, 0xac, 0x4a, 0x0a, 0x04, 0x04, 0xd1, 0x41, 0x09, 0xa1, 0x15, 0x80,
     0x08, 0x64, 0x22, 0x22, 0x26, 0x40, 0, 0x18, 0x30, 0x00,
 ];
 
-// `KEY` as it is sent: with the mask of these targets, bit i for target i, behind the structure.
+// Returns `KEY` as it is sent: after the structure, it has the mask of these targets. Bit i of the mask is for target i.
 fn key_telling(mask: u8) -> [u8; 47] {
     let mut key = KEY;
     key[21] = 0xc0;
@@ -49,7 +51,8 @@ fn key_telling(mask: u8) -> [u8; 47] {
     key
 }
 
-// A packet that is a whole frame of a template; the last of a temporal unit has the marker. Templates 1 and 4 refer to the frame 4 numbers back.
+// Returns a packet that is a complete frame with this template. The marker is set if the frame is the last of its temporal unit. Frames with
+// templates 1 and 4 refer to the frame whose number is 4 lower.
 fn frame(seq: u16, number: u16, template: u8) -> [u8; 23] {
     let [high, low] = seq.to_be_bytes();
     let [number_high, number_low] = number.to_be_bytes();
@@ -89,7 +92,7 @@ fn buffer(bytes: &[u8]) -> PacketBuf
     packet
 }
 
-// A packet of the track, at moment 0.
+// Returns the call with a packet of the track that arrives at moment 0.
 fn packet(track: u32, bytes: &[u8]) -> Call
     requires { length bytes.now ≤ 2048 }
 {
@@ -109,7 +112,7 @@ fn publish(track: u32, kind: Kind) -> Call {
     }
 }
 
-// A subscriber whose packets are sent with SSRC 22222222, from number 7 on.
+// Returns the join of a subscriber. Its packets are sent with SSRC 22222222, and with sequence numbers that begin at 7.
 fn join(subscriber: u32, track: u32, wish: Wish) -> Call {
     Call::Join {
         subscriber,
@@ -135,7 +138,7 @@ fn scratch() -> Scratch {
     }
 }
 
-// These bytes as they are sent: with this sequence number and marker, and with SSRC 22222222.
+// Returns the packet that is sent for these bytes. It has this sequence number, this marker and SSRC 22222222.
 fn outgoing(bytes: &[u8], seq: u16, marker: bool) -> PacketBuf
     requires { length bytes.now ≤ 2048 }
 {
@@ -156,7 +159,7 @@ fn outgoing(bytes: &[u8], seq: u16, marker: bool) -> PacketBuf
     packet
 }
 
-// Serves a row of calls, each with its reply.
+// Serves a row of calls, and compares each reply with the expected one.
 fn serve(rt: &impl Abort, room: &mut Room<KeepNone>, scratch: &mut Scratch, row: &[(Call, Reply)]) {
     for (call, reply) in row {
         assert_eq!(rt; room.serve(0, call, scratch), *reply, "{call:?}");
@@ -285,7 +288,7 @@ fn the_kind_is_that_of_the_join(rt: HostRuntime) {
     assert_eq!(rt; room.kind_of(2), Ok(LAYERED));
 }
 
-// Takes one packet, and compares it with these bytes as they are expected to be sent.
+// Takes one packet, and compares it with the expected packet.
 fn expect(
     rt: &impl Abort,
     room: &mut Room<KeepNone>,
@@ -323,8 +326,8 @@ fn each_subscriber_gets_its_own(rt: HostRuntime) {
         ],
     );
     expect(&rt, &mut room, &mut scratch, 3, &outgoing(&PLAIN, 7, false));
-    // The subscriber of the highest target gets both frames, that of the lowest only the first, which ends its layer. For each of them the key
-    // frame has the mask of its targets.
+    // The subscriber with the highest target gets both frames. The subscriber with the lowest target gets only the first frame, which is the last of
+    // the temporal unit for this target. For each subscriber, the key frame has the mask of that subscriber's targets.
     expect(
         &rt,
         &mut room,
@@ -403,7 +406,7 @@ fn a_full_queue_withholds_nothing_from_another(rt: HostRuntime) {
         2,
         &outgoing(&key_telling(8), 7, true),
     );
-    // The first subscriber takes no packet: its queue is full before frame 1024.
+    // The first subscriber takes no packet, so its queue is full before frame 1024.
     for unit in 1u16..258 {
         let lower = frame(2 * unit, 4 * unit, 1);
         let higher = frame(2 * unit + 1, 4 * unit + 1, 4);
@@ -441,7 +444,7 @@ fn a_full_queue_withholds_nothing_from_another(rt: HostRuntime) {
     );
 }
 
-// The lock of a room moves the room twice per turn.
+// A room should be small, because the lock of a room moves the room twice per turn.
 #[test]
 fn a_room_is_at_most_256_bytes(rt: HostRuntime) -> Result<(), Fail> {
     assert!(rt; size_of::<Room<KeepNone>>() <= 256);

@@ -1,5 +1,5 @@
-// The places of a track's subscribers in their table.
-ghost use Rattle.std.specs.Prelude.{◌≡◌, ◌<◌, Some, nat_eq, true};
+// Updates the sets of places that tracks have. A place is the index of a subscriber in the table of subscribers.
+ghost use Rattle.std.specs.Prelude.{◌≡◌, ◌<◌, Some, false, nat_eq, true};
 ghost use Rattle.indexmap.specs.IndexMap.{get, index_map_len};
 ghost use Rattle.place_set.specs.Places.{has_place};
 ghost use Rattle.room_core.specs.Indexed.{AreSame, AreSameBut, HaveAll, HaveAllBut, tracks_of};
@@ -8,7 +8,7 @@ ghost use Rattle.room_core.specs.declared.live.LiveTrack.{LiveTrack};
 use crate::live::{LiveSubscriber, LiveTrack};
 use indexmap::IndexMap;
 
-/// If the track is live, adds the place of one of its subscribers.
+/// If the track is live, adds the place of a subscriber to the track's set of places.
 pub fn put_place(tracks: &mut IndexMap<u32, LiveTrack>, track: u32, place: usize)
     requires { place < 256 }
     ensures changed { AreSameBut place (get nat_eq tracks.old) (get nat_eq tracks.new) }
@@ -20,10 +20,11 @@ pub fn put_place(tracks: &mut IndexMap<u32, LiveTrack>, track: u32, place: usize
     }
 }
 
-/// If the track is live, removes a place that no subscriber of the track has any more.
+/// If the track is live, removes this place from the track's set of places. No subscriber of the track has this place any more.
 pub fn take_place(tracks: &mut IndexMap<u32, LiveTrack>, track: u32, place: usize)
     requires { place < 256 }
     ensures changed { AreSameBut place (get nat_eq tracks.old) (get nat_eq tracks.new) }
+    ensures taken { (known : LiveTrack) → get nat_eq tracks.new track ≡ Some known → has_place known.places place ≡ false }
     ensures count { index_map_len tracks.new ≡ index_map_len tracks.old }
 {
     if let Some(known) = tracks.get_mut(&track) {
@@ -31,7 +32,8 @@ pub fn take_place(tracks: &mut IndexMap<u32, LiveTrack>, track: u32, place: usiz
     }
 }
 
-/// Removing the subscriber at `place` moved the table's last subscriber there, if that was another. Records the new place in the set of its track.
+/// Call this after the subscriber at `place` was removed from the table. If another subscriber was the last in the table, the removal has moved that
+/// subscriber to `place`. In the set of the moved subscriber's track, replaces the old place with the new one.
 pub fn move_last(
     tracks: &mut IndexMap<u32, LiveTrack>,
     subscribers: &IndexMap<u32, LiveSubscriber>,

@@ -1,4 +1,4 @@
-// Queries on a live track, which are no entries of the history.
+// Queries about a live track. These queries add no entries to the history.
 ghost use Rattle.std.specs.Prelude.{◌≡◌, List};
 ghost use Rattle.sfu_base.specs.declared.call.Call.{Call};
 ghost use Rattle.room_core.specs.Content.{IsAfter};
@@ -13,18 +13,18 @@ use crate::room::Room;
 use sfu_base::Refusal;
 
 impl<R: Recorder> Room<R> {
-    /// Returns the least moment, in milliseconds, at which a tick of the track gives up a gap: the arrival moment of the lowest held packet plus the
-    /// hold. `None` if no packet is held, or if the sum is 2^64 or more. This query adds no entry to the history, changes nothing, and allocates no
-    /// memory. `NoTrack`: no live track has the number. Own rule.
+    /// Returns the earliest moment, in milliseconds, at which a tick of the track gives up a gap. This earliest moment is the arrival moment of the
+    /// buffered packet with the lowest number, plus the track's hold time. Returns `None` if no packet is buffered, or if the sum is 2^64 or more.
+    /// This query adds no entry to the history, changes nothing, and allocates no memory. `NoTrack`: no live track has the number. Own rule.
     pub fn due(&self, track: u32) -> Result<Option<u64>, Refusal>
         ensures due { (history : List Entry) → Stands R.noted self.now history → IsDueOf history track result }
     {
         self.content.due(track)
     }
 
-    /// Returns the unwrapped number of the track's newest whole frame, in the form that [`Room::why`] takes. `None` before the first frame, and on a
-    /// plain track. This query adds no entry to the history, changes nothing, and allocates no memory. `NoTrack`: no live track has the number. Own
-    /// rule.
+    /// Returns the unwrapped frame number of the track's newest complete frame. [`Room::why`] accepts such a number. Returns `None` before the first
+    /// frame, and on a plain track. This query adds no entry to the history, changes nothing, and allocates no memory. `NoTrack`: no live track has
+    /// the number. Own rule.
     pub fn newest_frame(&self, track: u32) -> Result<Option<u64>, Refusal>
         ensures newest { (history : List Entry) → Stands R.noted self.now history → IsNewestFrameOf history track result }
     {
@@ -33,7 +33,7 @@ impl<R: Recorder> Room<R> {
 }
 
 impl Content {
-    /// Returns the least moment at which a tick of the track gives up a gap.
+    /// Returns the earliest moment at which a tick of the track gives up a gap.
     pub fn due(&self, track: u32) -> Result<Option<u64>, Refusal>
         ensures { (past : List Call) → IsAfter self.now past → result ≡ told_of_track (published track past) (due_at track past) }
     {
@@ -43,7 +43,7 @@ impl Content {
         }
     }
 
-    /// Returns the number of the track's newest whole frame.
+    /// Returns the unwrapped frame number of the track's newest complete frame.
     pub fn newest_frame(&self, track: u32) -> Result<Option<u64>, Refusal>
         ensures { (past : List Call) → IsAfter self.now past → result ≡ told_of_track (published track past) (newest_frame_at track past) }
     {

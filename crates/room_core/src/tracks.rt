@@ -15,7 +15,7 @@ use place_set::PlaceSet;
 use sfu_base::{Kind, PacketBuf, Refusal, Reply, SeqList};
 
 impl Content {
-    /// Ends the track. Its subscribers stay.
+    /// Ends the track. The track's subscribers stay.
     pub fn unpublish(&mut self, track: u32) -> Reply
         ensures does { DoesSilently self.old self.new (call.Unpublish track) result }
         ensures fed { is_starved result ≡ false }
@@ -53,8 +53,8 @@ impl Content {
                 }
                 Err(why) => Reply::Refused(why),
             },
-            // Can't be: the place is one of the table's.
-            None => Reply::Refused(Refusal::NoTrack),
+            // `place_of` returns only places that are in the table.
+            None => unreachable!(),
         }
     }
 
@@ -81,12 +81,12 @@ impl Content {
                 );
                 Reply::Done
             }
-            // Can't be: the place is one of the table's.
-            None => Reply::Refused(Refusal::NoTrack),
+            // `place_of` returns only places that are in the table.
+            None => unreachable!(),
         }
     }
 
-    /// Writes the missing sequence numbers of the track to `out`.
+    /// Replaces the contents of `out` with the missing sequence numbers of the track.
     pub fn missing(&self, track: u32, out: &mut SeqList) -> Reply
         ensures does { (bytes : List ℕ) → Does self.now self.now (call.Missing track) result bytes out.new }
         ensures fed { is_starved result ≡ false }
@@ -102,7 +102,7 @@ impl Content {
         }
     }
 
-    /// Whether a key frame is wanted from the track's publisher.
+    /// Replies whether a key frame should be requested from the track's publisher.
     pub fn key_wanted(&self, track: u32) -> Reply
         ensures does { DoesSilently self.now self.now (call.KeyWanted track) result }
         ensures fed { is_starved result ≡ false }
@@ -119,7 +119,7 @@ impl Content {
         }
     }
 
-    // Whether a live subscriber of the track has no current target.
+    // Returns whether a live subscriber of the track has no current target.
     fn has_waiting(&self, track: u32, places: &PlaceSet) -> bool
         requires { HasPlaces places.now track (tracks_of self.now.subscribers.entries) }
         ensures { (past : List Call) → IsAfter self.now past → result ≡ has_waiting track past }

@@ -1,4 +1,4 @@
--- Names that rise, rise from the first of them on: so one choice of whole numbers does, and one proof.
+-- Rising numbers rise from the first of them on. This is so for one choice of whole numbers, and one choice proves it.
 use Rattle.std.proofs.Common.{◌≡◌, ◌∙◌, ℕ, ◌+◌, ◌-◌, ◌%◌, ◌<◌, ◌≤◌, List, [], ◌∷◌, refl, ap, sym, arith, subst}
 use Rattle.std.specs.Prelude.{map}
 use Rattle.std.specs.Coded.{×_prop, Unit-prop}
@@ -9,11 +9,11 @@ use Rattle.rtcp_feedback.specs.Writing.{Rise, RisesTo}
 remainders : List ℕ → List ℕ
 remainders ns = map (λ n. n % 65536) ns
 
--- the number from `first` on, a name, with this remainder
+-- the number from `first` on that has this remainder
 at_least : ℕ → ℕ → ℕ
 at_least first name = first + (name + 65536 - first) % 65536
 
--- the names as whole numbers from the first on
+-- the numbers as whole numbers from the first on
 chosen : ℕ → List ℕ → List ℕ
 chosen first names = map (at_least first) names
 
@@ -31,7 +31,7 @@ unfolding IsChosen
 is_chosen_prop [] = λ x y. absurd x
 is_chosen_prop (name ∷ names) = ×_prop (rises_prop (name + 1023) (name ∷ chosen name names)) (Prim.hlevel props)
 
--- ---- from a choice of any whole numbers
+-- ---- from any choice of whole numbers
 
 moved : (first n : ℕ) → first ≤ n → n ≤ first + 1023 → at_least (first % 65536) (n % 65536) ≡ first % 65536 + (n - first)
 unfolding at_least
@@ -82,6 +82,6 @@ unfolding IsChosen remainders
 found [] is = absurd is
 found (name ∷ names) is = record { first = name; others = chosen name names; remainders = is.1; rising = is.0 }
 
--- that names rise is known where it is merely so
+-- that the numbers rise is known if it merely holds
 pub rise_merely : (names : List ℕ) → ∥ Rise 1023 names ∥₁ → Rise 1023 names
 rise_merely names rise = found names (∥∥₁_elim rise (is_chosen_prop names) (choose names))

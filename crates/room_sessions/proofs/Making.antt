@@ -1,4 +1,4 @@
--- The calls of a session are made one after the other.
+-- The calls of a session are made one after another.
 use Rattle.std.specs.Prelude.{IsTrue, ◌⊎◌, Option}
 use Rattle.std.proofs.Common.{◌≡◌, ◌∙◌, ℕ, Bool, true, false, if◌then◌else◌, List, [], ◌∷◌, ◌++◌, refl, ap, sym, subst, append_assoc}
 use Rattle.std.proofs.Math.Logic.{∥∥₁_map}
@@ -21,7 +21,7 @@ use Rattle.room_sessions.specs.Working.{AreMade, HasHistory, HaveCause, answer_a
 abbrev pub entry : ℕ → Call → Bool → Entry
 entry seat call starved = record { seat = seat; call = call; starved = starved }
 
--- ---- want of memory
+-- ---- out of memory
 
 memory_is : (why : Refusal) → is_memory why ≡ true → why ≡ NoMemory
 memory_is NoMemory e = refl
@@ -82,7 +82,7 @@ causes_after may_refuse old mid es e have same cause =
 
 -- ---- a call was served
 
--- the room still stands for some history
+-- the room still represents some history
 pub goes_on_having : {R : Type 0} (noted : R → Option (List Noted)) (old new : Room R) (seat : ℕ) (call : Call) (given : Reply) (bytes names : List ℕ) → HasHistory noted old → Serves noted old new seat call given bytes names → HasHistory noted new
 goes_on_having noted old new seat call given bytes names has serves = ∥∥₁_map has (λ h. (h.0 ++ entry seat call (is_starved given) ∷ [], serves.stands h.0 h.1))
 
@@ -91,7 +91,7 @@ module _ {R : Type 0} (noted : R → Option (List Noted)) (old mid new : Room R)
     pub stands_one : (history : List Entry) → Stands noted old history → Stands noted new (history ++ (made ++ entry seat call (is_starved given) ∷ []))
     stands_one history at = subst (λ (l : List Entry). Stands noted new l) (append_assoc history made (entry seat call (is_starved given) ∷ [])) (serves.stands (history ++ made) (stands history at))
 
-    -- of what was left, what is left then
+    -- the rest after this call
     pub leaves_one : (history : List Entry) (d rest : Doing) → Stands noted old history → AreMade seat history d made rest → Asks rest call
         → AreMade seat history d (made ++ entry seat call (is_starved given) ∷ []) (answered rest (answer_of given bytes names))
     leaves_one history d rest at are asks =

@@ -41,7 +41,7 @@ module _ (call : Call) (given : Reply) (bytes names : List ℕ) (told : is_starv
     text = λ control. has_text call given bytes names control told;
   }
 
--- it is a reply to the call that has to be made next
+-- it is a reply to the next call
 pub replies : (left : Doing) (call : Call) (given : Reply) (bytes names : List ℕ) → Asks left call → IsReplyTo call given bytes names → IsReplyIn left given bytes names
 replies (Ask own f) call given bytes names is told = subst (λ (k : Call). IsReplyTo k given bytes names) is told
 replies (Listen f) call given bytes names is told = absurd is
@@ -53,7 +53,7 @@ short_prop reply.Packet = λ x y. absurd x
 short_prop reply.Names = λ x y. absurd x
 short_prop other = Unit-prop
 
--- the same if the room stands for a history that isn't known
+-- the same if the room represents a history that isn't known
 pub served_replies : {R : Type 0} (noted : R → Option (List Noted)) (old new : Room R) (seat : ℕ) (call : Call) (given : Reply) (bytes names : List ℕ) → HasHistory noted old → Serves noted old new seat call given bytes names
     → (given ≡ reply.Packet → IsSendable bytes) → IsReplyTo call given bytes names
 served_replies noted old new seat call given bytes names has serves sendable =

@@ -1,4 +1,4 @@
--- A control line's call is answered by a text.
+-- The answer to a control line's call is a text.
 use Rattle.std.proofs.Common.{◌≡◌, ℕ, Bool, true, false, List, refl, ap}
 use Rattle.std.specs.Prelude.{Option, None, Some, Result, Ok, Err}
 use Rattle.sfu_base.specs.Answer.{Answer, Done, Sent, Named, KeyIs, answer_of, is_starved}

@@ -1,4 +1,4 @@
--- What the session of a publisher or of a subscriber still has to do.
+-- What remains to be done in the session of a publisher or of a subscriber.
 use Rattle.std.specs.Prelude.{ℕ}
 use Rattle.session_steps.specs.Publishing.{publishing, publishing_calls}
 use Rattle.session_steps.specs.Sessions.{Doing}

@@ -18,7 +18,7 @@ pub enum EitherSession {
 impl EitherSession {
     ghost use Rattle.room_sessions.specs.Either.{either_left};
 
-    /// Begins a turn, as [`received`](Session::received) does. Returns no output, since nothing has to be sent before the turn's first call.
+    /// Begins a turn, as [`received`](Session::received) does. Returns no output, since the session sends no datagram before the turn's first call.
     pub fn hear(&mut self, came: bool, moment: u64, scratch: &mut Scratch)
         requires { (turns : ℕ) → Waits (either_left self.old turns) turns }
         ensures { (turns : ℕ) → heard (either_left self.old (suc turns)) (datagram came scratch.old.packet) moment ≡ either_left self.new turns }

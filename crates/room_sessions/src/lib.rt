@@ -1,5 +1,5 @@
-//! Runs the sessions of publishers and subscribers on a room in one thread: serves a session's calls on the room, up to the next datagram to
-//! send.
+//! Runs the sessions of publishers and subscribers on a room in one thread. `work` serves a session's calls on the room until the session has a datagram to
+//! send, or has no call left.
 #![tactic(auto)]
 
 mod either;

@@ -1,12 +1,13 @@
-// A session's calls on a room.
+// Serves the calls of a session on a room.
 ghost use Rattle.room_sessions.specs.Working.{HasHistory, Works};
 
 use room_core::{Recorder, Room};
 use session_steps::{Output, Session};
 use sfu_base::Scratch;
 
-/// Serves the session's calls on the room, each from this seat, and passes the replies to the session, up to the next datagram to send. `Packet`:
-/// that datagram is in `scratch.packet`. `Nothing`: the session has no call left, and waits for the next datagram.
+/// Serves the session's calls on the room, all from this seat, and passes each reply to the session. Stops when the session has a datagram to send, or has no
+/// call left. Returns `Packet` if there is a datagram to send; the datagram is in `scratch.packet`. Returns `Nothing` if no call is left; the session then
+/// waits for the next datagram.
 pub fn work<R: Recorder, S: Session>(
     room: &mut Room<R>,
     seat: u32,

@@ -1,4 +1,4 @@
--- Places in a datagram by numbers.
+-- Places in a datagram, given as numbers.
 use Rattle.std.proofs.Common.{◌≡◌, ◌∙◌, ℕ, zero, suc, ◌+◌, ◌-◌, ◌<◌, ◌≤◌, List, [], ◌∷◌, ◌++◌, length, take, drop, slice_range, refl, ap, sym, arith, append_assoc, length-drop, drop-drop}
 use Rattle.std.specs.Prelude.{None}
 use Rattle.std.proofs.lemmas.List.{drop-take, map-append, take_rest}
@@ -13,7 +13,7 @@ use Rattle.rtcp_feedback.specs.Cursors.{LiesIn, left_at}
 use Rattle.rtcp_feedback.proofs.Cutting.{no_feedback, no_packet_fault, still_faultless, with_packet}
 use Rattle.rtcp_feedback.proofs.Marks.{no_pair_names}
 
--- what is left of a list is at its end
+-- the remaining part of a list is at its end
 suffix : (xs : List ℕ) (k : ℕ) → drop (length xs - length (drop k xs)) xs ≡ drop k xs
 suffix [] zero = refl
 suffix [] (suc k) = refl
@@ -28,7 +28,7 @@ suffix (x ∷ xs) (suc k) =
 pub rest_some : (bytes : List ℕ) (p : ℕ) → p < length bytes → 0 < length (drop p bytes)
 rest_some bytes p some = let short = length-drop p bytes in omega (arith, short, some)
 
--- the packet at a byte, and what is behind it
+-- the packet that begins at a byte, and the bytes after it
 module _ (bytes : List ℕ) (p : ℕ) (behind : List ℕ) (some : p < length bytes)
     (there : behind ≡ drop (length_of (take (length bytes - p) (drop p bytes))) (take (length bytes - p) (drop p bytes))) where
   behind_is : behind ≡ drop (length_of (drop p bytes)) (drop p bytes)
@@ -95,7 +95,7 @@ stands_first bytes s place none =
 pub left_first : (bytes : List ℕ) (s : Cursor) → left_at bytes s ≡ nacks 0 (names_in (slice_range bytes 0 0)) ++ feedback_of bytes → left_at bytes s ≡ feedback_of bytes
 left_first bytes s is = is ∙ no_pairs_at 0 0 bytes bytes
 
--- ---- the place behind the last packet
+-- ---- the place after the last packet
 
 pub stands_last : (bytes : List ℕ) (s : Cursor) (end : ℕ) → end ≡ length bytes → (s.pairs ≡ end) × (s.end ≡ end) × (s.packets ≡ end) → LiesIn bytes s
 stands_last bytes s end is place =

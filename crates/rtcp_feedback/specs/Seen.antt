@@ -1,5 +1,5 @@
--- What an iterator has yet to return of a datagram's feedback (own rule, over RFC 4585, sections 6.2.1 and 6.3.1). The code
--- keeps the bytes that are left and the bits of one pair.
+-- The feedback of a datagram that an iterator hasn't returned yet (own rule, over RFC 4585, sections 6.2.1 and 6.3.1). The code keeps the
+-- remaining bytes and the bits of one pair.
 use Rattle.std.specs.Prelude.{◌≡◌, ℕ, zero, suc, ◌+◌, ◌/◌, ◌%◌, ◌==◌, ◌≤◌, if◌then◌else◌, List, [], ◌∷◌, length, slice_range}
 use Rattle.rtcp_feedback.specs.declared.feedback.Feedback.{Feedback}
 use Rattle.rtcp_feedback.specs.declared.feedback.Feedback.TheVariants.{Pli}
@@ -15,7 +15,7 @@ marked zero next bits = []
 marked (suc n) next bits =
     if bits % 2 == 1 then next ∷ marked n ((next + 1) % 65536) (bits / 2) else marked n ((next + 1) % 65536) (bits / 2)
 
--- the numbers that are left of a pair
+-- the remaining numbers of a pair
 abbrev pub names_left : Names → List ℕ
 names_left names = marked 32 names.next names.bits
 

@@ -1,4 +1,4 @@
-// A cursor into the feedback of a datagram. It borrows nothing, so it can be kept beside the datagram.
+// A cursor into the feedback of a datagram. The cursor borrows nothing, so one struct can own both the datagram and the cursor.
 ghost use Rattle.std.specs.Prelude.{◌≡◌, ◌+◌, ◌-◌, ◌++◌, ◌<◌, ◌≤◌, ◌∷◌, [], List, ℕ, None, MatchOption, IfSome, length, drop, slice_range};
 ghost use Rattle.rtcp_feedback.specs.Faults.{fault_among, packets_in};
 ghost use Rattle.rtcp_feedback.specs.Names.{names_in};
@@ -9,8 +9,8 @@ use crate::feedback::Feedback;
 use crate::names::{Names, PAIR, first_name, first_pair};
 use crate::packet::{Body, SOURCES, split_packet};
 
-/// What is left of a datagram: the remaining numbers of the current pair, then the pairs of the same NACK in the bytes `pairs..end`, then the
-/// packets from byte `packets` on.
+/// The part of a datagram that remains to be read. First come the remaining numbers of the current pair, then the pairs of the same NACK in the
+/// bytes `pairs..end`, then the packets from byte `packets` on.
 #[derive(Clone, Copy, Debug)]
 pub(crate) struct Cursor {
     pub(crate) names: Names,
@@ -20,7 +20,7 @@ pub(crate) struct Cursor {
     pub(crate) packets: usize,
 }
 
-/// A cursor without a current pair: what is left are the pairs of a NACK for `media` in the bytes `pairs..end`, and the packets from byte
+/// A cursor without a current pair. The pairs of a NACK for `media` in the bytes `pairs..end` remain to be read, then the packets from byte
 /// `packets` on.
 pub(crate) fn cursor_at(media: u32, pairs: usize, end: usize, packets: usize) -> Cursor
     ensures left { (bytes : List ℕ) → left_at bytes result ≡ nacks media (names_in (slice_range bytes pairs end)) ++ feedback_of (drop packets bytes) }
@@ -36,8 +36,8 @@ pub(crate) fn cursor_at(media: u32, pairs: usize, end: usize, packets: usize) ->
     }
 }
 
-/// Enters the packet that begins at byte `start`. Returns its item, if it is a picture loss indication, and the next cursor: before the pairs
-/// of a NACK, and behind any other packet.
+/// Enters the packet that begins at byte `start`. If it is a picture loss indication, returns its item. Also returns the next cursor. For a
+/// NACK it is before the pairs; for any other packet it is after the packet.
 fn enter_packet(bytes: &[u8], start: usize) -> (Option<Feedback>, Cursor)
     requires some { start < length bytes.now }
     requires faultless { fault_among (packets_in (drop start bytes.now)) ≡ None }
@@ -61,7 +61,7 @@ fn enter_packet(bytes: &[u8], start: usize) -> (Option<Feedback>, Cursor)
     }
 }
 
-/// The first item behind the cursor, and the cursor behind that item; `None` if no item is left.
+/// Returns the next item and the cursor after that item, or `None` if no item remains.
 pub(crate) fn first_item(bytes: &[u8], cursor: Cursor) -> Option<(Feedback, Cursor)>
     requires { LiesIn bytes.now cursor }
     ensures item { MatchOption result (left_at bytes.now cursor ≡ []) (λ x. left_at bytes.now cursor ≡ x.0 ∷ left_at bytes.now x.1) }

@@ -1,4 +1,4 @@
-//! RTCP feedback: generic NACKs and picture loss indications (RFC 4585), read and written. No call allocates memory.
+//! Reads and writes RTCP feedback: generic NACKs and picture loss indications (RFC 4585). No call allocates memory.
 #![tactic(auto)]
 
 mod cursor;

@@ -1,4 +1,4 @@
-// A queue that owns one datagram and returns the datagram's feedback.
+// A queue that owns a datagram and returns its feedback.
 ghost use Rattle.std.specs.Prelude.{◌≡◌, ◌≤◌, ◌∷◌, [], length, MatchOption, IfOk, IfErr, None, Some};
 ghost use Rattle.rtcp_feedback.specs.Faults.{first_fault};
 ghost use Rattle.rtcp_feedback.specs.Reading.{feedback_of};
@@ -10,8 +10,8 @@ use crate::reader::read;
 use sfu_base::PacketBuf;
 use std::marker::Model;
 
-/// A queue of the feedback of one datagram. Clauses see it as the list of the items that are left. The queue owns a copy of the datagram, so a
-/// session can keep the queue between two calls; [`Feedbacks`](crate::Feedbacks) borrows the datagram.
+/// A queue of the feedback in one datagram. Contracts see it as the list of the remaining items. The queue owns a copy of the datagram, so a
+/// session can keep the queue between two calls. [`Feedbacks`](crate::Feedbacks) borrows the datagram instead.
 #[derive(Debug, Drop)]
 pub struct FeedbackQueue {
     datagram: PacketBuf,
@@ -41,7 +41,7 @@ impl FeedbackQueue {
         }
     }
 
-    /// Drops the items that are left.
+    /// Drops the remaining items.
     pub fn clear(&mut self)
         ensures { self.new ≡ [] }
     {
@@ -49,8 +49,8 @@ impl FeedbackQueue {
         self.cursor = cursor_at(0, end, end, end);
     }
 
-    /// Replaces the items that are left with the feedback of a datagram of at most 2,048 bytes, as [`read`] returns it. The errors are those of
-    /// [`read`]; after an error the queue is empty.
+    /// Replaces the remaining items with the feedback that [`read`] finds in a datagram of at most 2,048 bytes. The errors are those of
+    /// [`read`]. After an error the queue is empty.
     pub fn fill(&mut self, datagram: &[u8]) -> Result<(), RtcpFault>
         requires { length datagram.now ≤ 2048 }
         ensures ok { IfOk result (λ done. (first_fault datagram.now ≡ None) × (self.new ≡ feedback_of datagram.now)) }
@@ -69,7 +69,7 @@ impl FeedbackQueue {
         }
     }
 
-    /// Removes and returns the first item, if one is left.
+    /// Removes and returns the first item, or returns `None` if the queue is empty.
     pub fn pop(&mut self) -> Option<Feedback>
         ensures { MatchOption result ((self.old ≡ []) × (self.new ≡ [])) (λ item. self.old ≡ item ∷ self.new) }
     {

@@ -131,7 +131,7 @@ pub each_block : (form : Form) (block : List ℕ) → AreBytes block → IsBlock
 each_block OneByte block fits = one_block 0 block fits
 each_block TwoByte block fits = two_block 0 block fits
 
--- And no other list of elements is the block's.
+-- A block has no other list of elements.
 
 one_element_read : (e : PlainElement) (xs : List ℕ) → Fits OneByte e → one_byte_from 0 (element_bytes OneByte e ++ xs) ≡ e ∷ one_byte_from 0 xs
 one_element_read e xs fits =

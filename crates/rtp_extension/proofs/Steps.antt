@@ -6,7 +6,7 @@ use Rattle.rtp_extension.specs.declared.form.Form.TheVariants.{OneByte, TwoByte}
 use Rattle.rtp_extension.specs.Forms.{PlainElement}
 use Rattle.rtp_extension.specs.Reading.{elements_in, one_byte_from, two_byte_from, ends_one}
 
--- bytes that belong to the value of the element before are skipped
+-- bytes that belong to the value of the previous element are skipped
 pub one_skips : (k : ℕ) (xs : List ℕ) → one_byte_from k xs ≡ one_byte_from 0 (drop k xs)
 unfolding one_byte_from
 one_skips zero xs = refl

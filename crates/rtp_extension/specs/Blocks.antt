@@ -1,5 +1,5 @@
--- The block of a header extension as a concatenation (RFC 8285, sections 4.2 and 4.3): elements and padding
--- bytes in any order, and then bytes at which processing ends. The code goes over the bytes from the front.
+-- The block of a header extension as a concatenation (RFC 8285, sections 4.2 and 4.3): elements and padding bytes in any order, and then bytes
+-- at which processing ends. The code reads the bytes from the first to the last.
 use Rattle.std.specs.Prelude.{◌≡◌, ℕ, ◌+◌, ◌/◌, ◌%◌, ◌<◌, ◌⊎◌, List, [], ◌∷◌, ◌++◌, length, Option, Some, None}
 use Rattle.std.specs.List.{flat_map}
 use Rattle.rtp_extension.specs.declared.form.Form.{Form}
@@ -36,8 +36,8 @@ pub record IsWhole (form : Form) (bytes : List ℕ) (es : List PlainElement) : T
   pub laid : bytes ≡ flat_map (piece_bytes form) pieces
   pub said : es ≡ elements_among pieces
 
--- Where processing ends. In either form: where no byte is left, and where the bytes end within an element
--- (own rule). In the one-byte form also at id 15, and at id 0 with a length that isn't 0 (own rule).
+-- Processing ends at these bytes. In either form, it ends if no byte is left, and if the bytes end within an element (own rule). In the
+-- one-byte form, it also ends at id 15, and at id 0 with a length that isn't 0 (own rule).
 abbrev pub Ends : Form → List ℕ → Type 0
 Ends form [] = Unit {0}
 Ends OneByte (head ∷ rest) = (0 < head) × ((head / 16 ≡ 0) ⊎ (head / 16 ≡ 15) ⊎ (length rest < head % 16 + 1))
@@ -52,7 +52,7 @@ pub record IsBlock (form : Form) (block : List ℕ) (es : List PlainElement) : T
   pub whole : IsWhole form front es
   pub ends : Ends form rest
 
--- the same for the form that a profile selects: a block whose profile selects none has no elements (own rule)
+-- the same for the form that a profile stands for; if the profile stands for none, the block has no elements (own rule)
 abbrev pub HasElements : Option Form → List ℕ → List PlainElement → Type 0
 HasElements None block es = es ≡ []
 HasElements (Some form) block es = IsBlock form block es

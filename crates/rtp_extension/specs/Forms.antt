@@ -8,7 +8,7 @@ pub record PlainElement : Type 0 where
   pub id : ℕ
   pub value : List ℕ
 
--- the form that a profile selects: 0xBEDE is the one-byte form, 0x1000 to 0x100F the two-byte form
+-- the form that a profile stands for: 0xBEDE means the one-byte form, 0x1000 to 0x100F the two-byte form
 abbrev pub form_of : ℕ → Option Form
 form_of profile = if profile == 0xBEDE then Some OneByte else (if profile / 16 == 0x100 then Some TwoByte else None)
 

@@ -1,12 +1,12 @@
--- The elements of a block, read byte by byte (RFC 8285, sections 4.2 and 4.3). The count says how many of
--- the next bytes still belong to the value of the element before. The code jumps from element to element.
+-- The elements of a block, read byte by byte (RFC 8285, sections 4.2 and 4.3). The count says how many of the next bytes still belong to the
+-- value of the previous element. The code jumps from element to element.
 use Rattle.std.specs.Prelude.{ℕ, zero, suc, ◌+◌, ◌/◌, ◌%◌, ◌==◌, ◌||◌, nat_lt, Bool, if◌then◌else◌, List, [], ◌∷◌, length, take, find, Option, Some, None, option_map}
 use Rattle.rtp_extension.specs.declared.form.Form.{Form}
 use Rattle.rtp_extension.specs.declared.form.Form.TheVariants.{OneByte, TwoByte}
 use Rattle.rtp_extension.specs.Forms.{PlainElement, form_of}
 
--- whether a one-byte block ends at this first byte of an element, with this many bytes after it: at
--- id 0, at id 15, and where the bytes end within the value
+-- `head` is the first byte of an element, and `behind` bytes follow it. Processing of a one-byte block ends here if the id is 0 or 15, or if
+-- the bytes end within the value.
 abbrev pub ends_one : ℕ → ℕ → Bool
 ends_one head behind = head / 16 == 0 || head / 16 == 15 || nat_lt behind (head % 16 + 1)
 
@@ -32,7 +32,7 @@ abbrev pub elements_in : Form → List ℕ → List PlainElement
 elements_in OneByte block = one_byte_from 0 block
 elements_in TwoByte block = two_byte_from 0 block
 
--- a block whose profile selects no form has no elements
+-- a block whose profile stands for no form has no elements
 abbrev pub elements_if : Option Form → List ℕ → List PlainElement
 elements_if None block = []
 elements_if (Some form) block = elements_in form block

@@ -1,5 +1,5 @@
--- A header extension in which one element has another value (own rule), as a concatenation (RFC 8285, sections 4.2 and 4.3). The
--- definition takes the old elements as a list; the code goes over the old block twice, once to count the bytes and once to write them.
+-- A header extension with a new value for one element (own rule), as a concatenation (RFC 8285, sections 4.2 and 4.3). The definition uses the
+-- old elements as a list. The code reads the old block twice, once to count the bytes and once to write them.
 use Rattle.std.specs.Prelude.{ℕ, zero, suc, ◌-◌, ◌/◌, ◌%◌, ◌==◌, ◌&&◌, nat_lt, if◌then◌else◌, List, [], ◌∷◌, ◌++◌, length, Option, Some, None}
 use Rattle.std.specs.Int.{bytes_high_first}
 use Rattle.std.specs.List.{flat_map}
@@ -7,7 +7,7 @@ use Rattle.rtp_extension.specs.declared.form.Form.{Form}
 use Rattle.rtp_extension.specs.Forms.{PlainElement, Fits, element_bytes, form_of}
 use Rattle.rtp_extension.specs.Reading.{elements_of}
 
--- the elements, but the first one with this id has this value
+-- the elements, except that the first one with this id has this value
 abbrev pub replaced : ℕ → List ℕ → List PlainElement → List PlainElement
 replaced id value [] = []
 replaced id value (e ∷ es) = if e.id == id then record { id = id; value = value } ∷ es else e ∷ replaced id value es
@@ -24,7 +24,7 @@ abbrev pub zeros : ℕ → List ℕ
 zeros zero = []
 zeros (suc n) = 0 ∷ zeros n
 
--- how many bytes are missing up to a whole number of 32-bit words
+-- how many bytes are needed to fill up the last 32-bit word
 abbrev pub word_padding : ℕ → ℕ
 word_padding n = (4 - n % 4) % 4
 
@@ -32,7 +32,7 @@ word_padding n = (4 - n % 4) % 4
 abbrev pub block_in : Form → List PlainElement → List ℕ
 block_in form es = elements_laid form es ++ zeros (word_padding (length (elements_laid form es)))
 
--- the same in the form that a profile selects; without a form there are no elements
+-- the same in the form that a profile stands for; without a form there are no elements
 abbrev pub block_if : Option Form → List PlainElement → List ℕ
 block_if None es = []
 block_if (Some form) es = block_in form es

@@ -11,7 +11,7 @@ use Rattle.rtp_extension.specs.Reblocked.{replaced}
 abbrev pub plain : Element → PlainElement
 plain e = record { id = e.id; value = e.value.now }
 
--- the elements if the value is still to be placed, or if it is placed already
+-- the elements with the value put in, if that hasn't happened yet; otherwise the elements as they are
 abbrev pub replaced_if : Option (Bor (List ℕ)) → ℕ → List PlainElement → List PlainElement
 replaced_if None id es = es
 replaced_if (Some value) id es = replaced id value.now es

@@ -1,4 +1,4 @@
--- When an element can be appended to a buffer of 2,048 bytes, and how the buffer then reads.
+-- When an element can be appended to a buffer of 2,048 bytes, and how the buffer is read afterwards.
 use Rattle.std.specs.Prelude.{◌≡◌, ℕ, ◌+◌, ◌≤◌, List, [], ◌∷◌, ◌++◌, length}
 use Rattle.rtp_extension.specs.declared.form.Form.{Form}
 use Rattle.rtp_extension.specs.Forms.{PlainElement, Fits, element_bytes}
@@ -9,7 +9,7 @@ pub record CanAppend (form : Form) (old : List ℕ) (e : PlainElement) : Type 0 
   pub fits : Fits form e
   pub room : length old + length (element_bytes form e) ≤ 2048
 
--- For every block at the end of the buffer that is elements and padding up to its end: it now has this element as its last.
+-- Take any block at the end of the buffer that consists of elements and padding. With the appended bytes, this element is the block's last one.
 pub record AddsElement (form : Form) (old new : List ℕ) (e : PlainElement) : Type 0 where
   pub reads : (front block : List ℕ) (es : List PlainElement) → old ≡ front ++ block → IsWhole form block es
       → (more : List ℕ) × (new ≡ front ++ more) × IsWhole form more (es ++ e ∷ [])

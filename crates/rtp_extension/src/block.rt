@@ -1,4 +1,4 @@
-// The elements of a block, and the search for one.
+// Reads the elements of a block, and finds one by its id.
 
 ghost use Rattle.std.specs.Prelude.{◌≡◌, option_copied};
 ghost use Rattle.rtp_extension.specs.Blocks.{HasElements};
@@ -8,9 +8,9 @@ ghost use Rattle.rtp_extension.specs.Reading.{elements_of, value_of};
 use crate::element::Elements;
 use crate::form::{Form, named_form};
 
-/// Returns the elements of a header extension's block, in order (RFC 8285, sections 4.2 and 4.3). Profile 0xBEDE is the one-byte form,
-/// 0x1000 to 0x100F the two-byte form. Any other profile has no elements (own rule). Reading a one-byte block ends at id 15, and at id
-/// 0 with a nonzero length (own rule). Reading a block of either form ends at an element that would pass the block's end (own rule).
+/// Returns the elements of a header extension's block, in order (RFC 8285, sections 4.2 and 4.3). Profile 0xBEDE means the one-byte form,
+/// 0x1000 to 0x100F the two-byte form. With any other profile, there are no elements (own rule). In the one-byte form, the elements end at id
+/// 15, and at id 0 with a nonzero length (own rule). In either form, they end at an element that would exceed the block (own rule).
 pub fn elements<'a>(profile: u16, block: &'a [u8]) -> Elements<'a>
     ensures value { result ≡ elements_of profile block.now }
     ensures grammar { HasElements (form_of profile) block.now result }

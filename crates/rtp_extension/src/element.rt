@@ -1,4 +1,4 @@
-// The elements of a block, one after another.
+// Reads the elements of a block one by one.
 
 ghost use Rattle.std.specs.Prelude.{◌≡◌, ◌<◌, ◌∷◌, [], MatchOption};
 ghost use Rattle.rtp_extension.specs.Reading.{elements_in};
@@ -7,7 +7,7 @@ ghost use Rattle.rtp_extension.specs.Seen.{plain};
 use crate::form::Form;
 use std::marker::Model;
 
-/// An element of a header extension, borrowed from the block.
+/// An element of a header extension. Its value is borrowed from the block.
 #[derive(Clone, Copy, Debug, PartialEq, Eq)]
 pub struct Element<'a> {
     /// The local identifier: 1 to 14 in the one-byte form, 1 to 255 in the two-byte form.
@@ -57,10 +57,10 @@ impl<'a> Iterator for Elements<'a> {
     }
 }
 
-/// The id that ends processing in the one-byte form.
+/// The id at which processing ends in the one-byte form.
 const RESERVED_ID: u8 = 15;
 
-/// Returns the first element and the bytes after it, or `None` if processing ends before an element.
+/// Returns the first element and the bytes after it, or `None` if processing ends before there is an element.
 pub(crate) fn first<'a>(form: Form, block: &'a [u8]) -> Option<(Element<'a>, &'a [u8])>
     ensures { MatchOption result (elements_in form block.now ≡ []) (λ x. elements_in form block.now ≡ plain x.0 ∷ elements_in form x.1.now) }
 {
@@ -77,7 +77,7 @@ pub(crate) fn first<'a>(form: Form, block: &'a [u8]) -> Option<(Element<'a>, &'a
     None
 }
 
-/// Returns the one-byte form's element that begins with the byte `head`, and the bytes after it, or `None` if processing ends here.
+/// In the one-byte form, returns the element that begins with the byte `head`, and the bytes after it. Returns `None` if processing ends here.
 fn one_byte<'a>(head: u8, behind: &'a [u8]) -> Option<(Element<'a>, &'a [u8])>
     requires { 0 < head }
     ensures { MatchOption result (elements_in Form.OneByte (head ∷ behind.now) ≡ [])
@@ -92,7 +92,7 @@ fn one_byte<'a>(head: u8, behind: &'a [u8]) -> Option<(Element<'a>, &'a [u8])>
     Some((Element { id, value }, rest))
 }
 
-/// Returns the two-byte form's element with this id, and the bytes after it, or `None` if the bytes end within the element.
+/// In the two-byte form, returns the element that begins with the byte `id`, and the bytes after it. Returns `None` if the bytes end within the element.
 fn two_byte<'a>(id: u8, behind: &'a [u8]) -> Option<(Element<'a>, &'a [u8])>
     requires { 0 < id }
     ensures { MatchOption result (elements_in Form.TwoByte (id ∷ behind.now) ≡ [])

@@ -14,7 +14,7 @@ pub(crate) enum Form {
 /// The profile of the one-byte form.
 const ONE_BYTE_PROFILE: u16 = 0xBEDE;
 
-/// The first of the sixteen profiles of the two-byte form.
+/// The lowest of the sixteen profiles of the two-byte form.
 const TWO_BYTE_PROFILE: u16 = 0x1000;
 
 /// The largest length of a value in the one-byte form, in bytes.
@@ -23,7 +23,7 @@ pub(crate) const LONGEST_ONE_BYTE: usize = 16;
 /// The largest length of a value in the two-byte form, in bytes.
 pub(crate) const LONGEST_TWO_BYTE: usize = 255;
 
-/// Returns the form that a profile selects, or `None` if it selects none.
+/// Returns the form that a profile stands for, or `None` if it stands for neither.
 pub(crate) fn named_form(profile: u16) -> Option<Form>
     ensures { result ≡ form_of profile }
 {
@@ -36,7 +36,7 @@ pub(crate) fn named_form(profile: u16) -> Option<Form>
     }
 }
 
-/// Returns the profile and the form that a block needs after one of its elements gets this value. `profile` and `form` are the old ones.
+/// Returns the profile and the form that a block needs once one of its elements has this value. `profile` and `form` are those of the old block.
 pub(crate) fn wide_enough(profile: u16, form: Form, value: &[u8]) -> (u16, Form)
     requires { form_of profile ≡ Some form }
     ensures profile { result.0 ≡ profile_for profile value.now }

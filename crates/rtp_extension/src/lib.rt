@@ -1,4 +1,4 @@
-//! The elements of RTP header extensions (RFC 8285), read and written. No call takes memory.
+//! Reads and writes the elements of RTP header extensions (RFC 8285). No call allocates memory.
 #![tactic(auto)]
 
 mod block;

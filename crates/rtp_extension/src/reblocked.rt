@@ -1,4 +1,4 @@
-// A header extension in which one element has another value.
+// Copies a header extension with a new value for one element.
 
 ghost use Rattle.std.specs.Prelude.{◌≡◌, ◌+◌, ◌++◌, ◌<◌, ◌≤◌, ◌↔◌, IsOk, IsSome, MatchOption, OnErr, OnOk, length};
 ghost use Rattle.rtp_extension.specs.Forms.{IsBetween};
@@ -17,10 +17,10 @@ const EXTENSION_HEADER: usize = 4;
 /// The length of a word, in bytes.
 const WORD: usize = 4;
 
-/// Appends a header extension, with its profile and length fields, that has the elements of a block in their order. The first element
-/// with this id gets this value of 1 to 255 bytes (own rule); such an element must exist. Bytes that aren't part of an element are
-/// left out, and zero bytes fill the last 32-bit word. The profile stays, but a value of more than 16 bytes turns the one-byte form
-/// into the two-byte form, with profile 0x1000. Returns `NoFit` if the buffer would pass 2,048 bytes; it is then as it was.
+/// Appends a header extension with its profile and length fields. The new extension has the elements of the block in the same order. The first
+/// element with this id, which must exist, gets this value of 1 to 255 bytes (own rule). Bytes that aren't part of an element are left out, and
+/// zero bytes fill up the last 32-bit word. The profile stays the same, but a value of more than 16 bytes turns the one-byte form into the
+/// two-byte form, with profile 0x1000. Returns `NoFit` and leaves the buffer unchanged if it would exceed 2,048 bytes.
 pub fn reblock(
     profile: u16,
     block: &[u8],

@@ -1,4 +1,4 @@
-// The elements of a block, one of them with another value.
+// The elements of a block, with a new value for one of them.
 
 ghost use Rattle.std.specs.Prelude.{◌≡◌, ◌∷◌, [], MatchOption};
 ghost use Rattle.rtp_extension.specs.Seen.{elements_left, plain};
@@ -6,7 +6,7 @@ ghost use Rattle.rtp_extension.specs.Seen.{elements_left, plain};
 use crate::element::{Element, first};
 use crate::form::Form;
 
-/// The remaining elements of a block. The first of them with this id gets the value. After that, `value` is `None`.
+/// The remaining elements of a block. The first element with this id gets the value. After that element, `value` is `None`.
 #[derive(Clone, Copy, Debug)]
 pub(crate) struct Replaced<'a> {
     pub(crate) form: Form,
@@ -15,7 +15,7 @@ pub(crate) struct Replaced<'a> {
     pub(crate) value: Option<&'a [u8]>,
 }
 
-/// Returns the first remaining element and what remains after it, or `None` if no element remains.
+/// Returns the first remaining element and the elements after it, or `None` if no element remains.
 pub(crate) fn first_left<'a>(left: Replaced<'a>) -> Option<(Element<'a>, Replaced<'a>)>
     ensures { MatchOption result (elements_left left.entry ≡ []) (λ x. elements_left left.entry ≡ plain x.0 ∷ elements_left x.1) }
 {

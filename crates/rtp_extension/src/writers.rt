@@ -1,4 +1,4 @@
-// Appends an element to a buffer.
+// Appends elements to a buffer.
 
 ghost use Rattle.std.specs.Prelude.{◌≡◌, ◌+◌, ◌++◌, ◌≤◌, ◌↔◌, IsOk, OnErr, OnOk, length};
 ghost use Rattle.rtp_extension.specs.Forms.{Fits, element_bytes};
@@ -10,8 +10,8 @@ use sfu_base::{NoFit, PacketBuf};
 /// The capacity of a buffer, in bytes.
 pub(crate) const ROOM: usize = 2048;
 
-/// Appends an element in the one-byte form (RFC 8285, section 4.2). Returns `NoFit` if the id isn't 1 to 14, if
-/// the value doesn't have 1 to 16 bytes, or if the buffer would pass 2,048 bytes; the buffer is then as it was.
+/// Appends an element in the one-byte form (RFC 8285, section 4.2). Returns `NoFit` if the id isn't 1 to 14, if the value doesn't have 1 to 16
+/// bytes, or if the buffer would exceed 2,048 bytes. The buffer is unchanged then.
 pub fn write_one(out: &mut PacketBuf, id: u8, value: &[u8]) -> Result<(), NoFit>
     ensures fits { IsOk result ↔ CanAppend Form.OneByte out.old (record { id = id; value = value.now }) }
     ensures ok { OnOk result (out.new ≡ out.old ++ element_bytes Form.OneByte (record { id = id; value = value.now })) }
@@ -28,8 +28,8 @@ pub fn write_one(out: &mut PacketBuf, id: u8, value: &[u8]) -> Result<(), NoFit>
     Ok(())
 }
 
-/// Appends an element in the two-byte form (RFC 8285, section 4.3). Returns `NoFit` if the id is 0, if the
-/// value has more than 255 bytes, or if the buffer would pass 2,048 bytes; the buffer is then as it was.
+/// Appends an element in the two-byte form (RFC 8285, section 4.3). Returns `NoFit` if the id is 0, if the value has more than 255 bytes, or if
+/// the buffer would exceed 2,048 bytes. The buffer is unchanged then.
 pub fn write_two(out: &mut PacketBuf, id: u8, value: &[u8]) -> Result<(), NoFit>
     ensures fits { IsOk result ↔ CanAppend Form.TwoByte out.old (record { id = id; value = value.now }) }
     ensures ok { OnOk result (out.new ≡ out.old ++ element_bytes Form.TwoByte (record { id = id; value = value.now })) }

@@ -1,4 +1,4 @@
--- Overwriting a packet's timestamp gives the restamped packet, which has the same faults, and the same parts except one.
+-- A packet whose timestamp is overwritten is the restamped packet. It has the same faults, and the same parts except one.
 use Rattle.std.proofs.Common.{◌≡◌, ◌<◌, ◌≤◌, ℕ, ◌+◌, ◌*◌, ◌%◌, ◌^◌, List, [], ◌∷◌, ◌++◌, length, take, drop, slice_index, refl, sym, ap, ◌∙◌, arith}
 use Rattle.std.proofs.lemmas.List.{drop-drop}
 use Rattle.byteorder.specs.Endian.{big_bytes}

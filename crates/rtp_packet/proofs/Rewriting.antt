@@ -1,4 +1,4 @@
--- Overwriting a packet's bytes twice gives the rewritten packet, which has the same faults, and the same parts except three.
+-- A packet whose bytes are overwritten in two places is the rewritten packet. It has the same faults, and the same parts except three.
 use Rattle.std.proofs.Common.{◌≡◌, ◌<◌, ◌≤◌, ℕ, suc, ◌+◌, ◌*◌, ◌%◌, ◌^◌, Bool, true, false, List, [], ◌∷◌, ◌++◌, length, take, drop, slice_index, refl, sym, ap, ◌∙◌, arith}
 use Rattle.std.proofs.lemmas.List.{drop-drop}
 use Rattle.byteorder.specs.Endian.{big_bytes}

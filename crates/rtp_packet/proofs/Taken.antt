@@ -86,7 +86,7 @@ extension_there (Some n) words block tail few whole =
 
 -- The payload and the padding after it.
 
--- the list, with its end put together first
+-- the list, with its end concatenated first
 at_end : (payload filler : List ℕ) → payload ++ padding_bytes (Some filler) ≡ (payload ++ filler) ++ (length filler + 1) ∷ []
 at_end payload filler = sym (append_assoc payload filler ((length filler + 1) ∷ []))
 
@@ -196,6 +196,6 @@ packet_is_fields bytes p is = (packet_taken bytes p is).1
 pub one_packet : (bytes : List ℕ) (p q : Packet) → IsPacket bytes p → IsPacket bytes q → p ≡ q
 one_packet bytes p q is_p is_q = sym (packet_is_fields bytes p is_p) ∙ packet_is_fields bytes q is_q
 
--- bytes with a fault are no packet
+-- bytes with a fault aren't a packet
 pub faulty_is_none : (bytes : List ℕ) (e : RtpFault) (p : Packet) → first_fault bytes ≡ Some e → IsPacket bytes p → ⊥
 faulty_is_none bytes e p at_fault is = let none = packet_has_no_fault bytes p is in cc

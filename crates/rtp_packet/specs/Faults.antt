@@ -1,11 +1,11 @@
--- The faults for which bytes aren't an RTP packet (RFC 3550, section 5.1), and which of them is the
--- first from front to back. The code makes the same tests, each on the bytes that are left.
+-- The reasons why bytes aren't an RTP packet (RFC 3550, section 5.1), and the order in which they are tested. The code makes the same tests,
+-- each on the remaining bytes.
 use Rattle.std.specs.Prelude.{ℕ, ◌+◌, ◌*◌, ◌==◌, ◌&&◌, ◌||◌, nat_lt, not, Bool, if◌then◌else◌, List, length, Option, Some, None}
 use Rattle.sfu_base.specs.declared.call.RtpFault.{RtpFault}
 use Rattle.sfu_base.specs.declared.call.RtpFault.TheVariants.{Short, Version, Csrc, Extension, Padding}
 use Rattle.rtp_packet.specs.Fields.{version_of, is_extended, is_padded, csrc_count, behind_csrcs, behind_header, block_words, last_byte}
 
--- the fixed header isn't there
+-- there are fewer bytes than the fixed header has
 abbrev pub lacks_header : List ℕ → Bool
 lacks_header bytes = nat_lt (length bytes) 12
 
@@ -13,12 +13,12 @@ lacks_header bytes = nat_lt (length bytes) 12
 abbrev pub has_other_version : List ℕ → Bool
 has_other_version bytes = not (version_of bytes == 2)
 
--- the bytes end before the CSRC list does
+-- the bytes end before the end of the CSRC list
 abbrev pub lacks_csrcs : List ℕ → Bool
 lacks_csrcs bytes = nat_lt (length bytes) (12 + 4 * csrc_count bytes)
 
--- X is set, and the bytes end before the header extension does. If they end before its length field does, the
--- missing bytes of that field count as 0, and there are fewer bytes than the four of profile and length anyway.
+-- X is set, and the bytes end before the end of the header extension. If they end before the end of its length field, the missing bytes of the
+-- field count as 0. Then there are fewer than the four bytes of profile and length, which is a fault in any case.
 abbrev pub lacks_extension : Bool → List ℕ → Bool
 lacks_extension extended rest = extended && nat_lt (length rest) (4 + 4 * block_words rest)
 

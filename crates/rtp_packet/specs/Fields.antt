@@ -1,6 +1,6 @@
--- The place of each field of an RTP packet (RFC 3550, sections 5.1 and 5.3.1). A field of a few bits is a quotient
--- and a remainder of its byte. A field of several bytes is their number, the highest byte first. Past the end of
--- the bytes each byte counts as 0. The code goes from front to back once, and keeps the bytes that are left.
+-- The place of each field of an RTP packet (RFC 3550, sections 5.1 and 5.3.1). A field of a few bits is a quotient and a remainder of its byte.
+-- A field of several bytes is the number that they encode, the highest byte first. After the end of the bytes, each byte counts as 0. The code
+-- reads the bytes once in order, and keeps the remaining bytes.
 use Rattle.std.specs.Prelude.{ℕ, ◌+◌, ◌-◌, ◌*◌, ◌/◌, ◌%◌, ◌==◌, Bool, if◌then◌else◌, List, [], take, drop, length, slice_index, Option, Some, None}
 use Rattle.byteorder.specs.Endian.{big_number}
 

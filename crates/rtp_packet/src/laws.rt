@@ -7,28 +7,28 @@ ghost use Rattle.rtp_packet.specs.Packet.{IsPacket, Packet, packet_of};
 ghost use Rattle.rtp_packet.specs.Restamped.{at_timestamp, restamped};
 ghost use Rattle.rtp_packet.specs.Rewritten.{readdressed, rewritten};
 
-/// At least 12 bytes that begin with 0x80 (version 2, no padding, no extension, no CSRC words) have no fault.
+/// 12 or more bytes have no fault if the first of them is 0x80 (version 2, no padding, no extension, no CSRC identifiers).
 pub fn plain_packets_read()
     ensures { (bytes : List ℕ) → 12 ≤ length bytes → slice_index bytes 0 ≡ 128 → first_fault bytes ≡ None }
 {}
 
-/// Bytes with no fault are a packet: the one that `packet_of` returns for them.
+/// Bytes without a fault are a packet, and `packet_of` returns that packet.
 pub fn bytes_without_fault_are_a_packet()
     ensures { (bytes : List ℕ) → AreBytes bytes → first_fault bytes ≡ None → IsPacket bytes (packet_of bytes) }
 {}
 
-/// The bytes of a packet have no fault, and `packet_of` returns that packet for them.
+/// The bytes of a packet have no fault, and `packet_of` of these bytes is that packet.
 pub fn a_packet_is_read()
     ensures no_fault { (bytes : List ℕ) (p : Packet) → IsPacket bytes p → first_fault bytes ≡ None }
     ensures fields { (bytes : List ℕ) (p : Packet) → IsPacket bytes p → packet_of bytes ≡ p }
 {}
 
-/// Bytes encode at most one packet.
+/// The same bytes can't be two different packets.
 pub fn bytes_are_one_packet()
     ensures { (bytes : List ℕ) (p q : Packet) → IsPacket bytes p → IsPacket bytes q → p ≡ q }
 {}
 
-/// Rewriting 12 or more bytes keeps their length and their faults. Of the packet's fields, only sequence number, SSRC and marker change.
+/// `rewritten` keeps the length and the first fault of 12 or more bytes. Of the packet's fields, it changes only sequence number, SSRC and marker.
 pub fn three_fields_are_rewritten()
     ensures len { (sequence ssrc : ℕ) (marker : Bool) (bytes : List ℕ) → 12 ≤ length bytes
         → length (rewritten sequence ssrc marker bytes) ≡ length bytes }
@@ -38,7 +38,7 @@ pub fn three_fields_are_rewritten()
         → packet_of (rewritten sequence ssrc marker bytes) ≡ readdressed sequence ssrc marker (packet_of bytes) }
 {}
 
-/// Restamping 12 or more bytes keeps their length and their faults. Of the packet's fields, only the timestamp changes.
+/// `restamped` keeps the length and the first fault of 12 or more bytes. Of the packet's fields, it changes only the timestamp.
 pub fn the_timestamp_is_rewritten()
     ensures len { (timestamp : ℕ) (bytes : List ℕ) → 12 ≤ length bytes → length (restamped timestamp bytes) ≡ length bytes }
     ensures faults { (timestamp : ℕ) (bytes : List ℕ) → 12 ≤ length bytes → first_fault (restamped timestamp bytes) ≡ first_fault bytes }

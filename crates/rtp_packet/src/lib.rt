@@ -1,4 +1,4 @@
-//! RTP packets (RFC 3550, section 5.1), read and rewritten.
+//! Reads RTP packets, and rewrites fields of their header (RFC 3550, section 5.1).
 #![tactic(auto)]
 
 mod laws;

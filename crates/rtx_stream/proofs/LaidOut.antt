@@ -1,4 +1,4 @@
--- How the parts of a packet determine where its bytes are, and the packet without its padding.
+-- How the parts of a packet determine the places of its bytes, and the packet without its padding.
 use Rattle.std.proofs.Common.{◌≡◌, ◌<◌, lit<, ℕ, zero, suc, ◌+◌, ◌-◌, ◌*◌, ◌/◌, ◌%◌, ◌==◌, Bool, true, false, List, [], ◌∷◌, ◌++◌, length, take, drop, slice_index, Option, Some, None, is_some, refl, sym, ap, subst, ◌∙◌, arith, append-nil, append_assoc, length-append}
 use Rattle.std.proofs.lemmas.List.{take_at}
 use Rattle.std.proofs.lemmas.Bool.Decides.{nat_tests}
@@ -34,7 +34,7 @@ csrcs_at bytes p is =
     ap (λ (x : ℕ). take (4 * x) (drop 12 bytes)) count ∙ ap (take (4 * is.csrc_words)) (after ∙ regrouped)
     ∙ take_at is.csrcs (ext ++ p.payload ++ padding_bytes is.filler) (4 * is.csrc_words) is.whole_csrcs
 
--- equal bytes that are equal packets have their parts at the same places
+-- if equal bytes are equal packets, their parts are at the same places
 pub record SameLayout (bytes others : List ℕ) (p o : Packet) (is : IsPacket bytes p) (other : IsPacket others o) : Type 0 where
   pub count : is.csrc_words ≡ other.csrc_words
   pub csrcs : is.csrcs ≡ other.csrcs
@@ -50,7 +50,7 @@ same_layout bytes others p o is other same says = record {
   words = omega (arith, is.whole_block, other.whole_block, ap (λ (x : Packet). length x.block) says);
 }
 
--- equal packets laid at the places of equal packets are equal bytes
+-- equal packets whose parts are at the same places are equal bytes
 pub same_bare : (bytes others : List ℕ) (p o q r : Packet) (is : IsPacket bytes p) (other : IsPacket others o) → bytes ≡ others → p ≡ o → q ≡ r
     → bare_bytes is.csrc_words is.csrcs is.block_words q ≡ bare_bytes other.csrc_words other.csrcs other.block_words r
 same_bare bytes others p o q r is other same says laid =
@@ -60,7 +60,7 @@ same_bare bytes others p o q r is other same says laid =
     ∙ ap (λ (x : List ℕ). bare_bytes other.csrc_words x is.block_words r) places.csrcs
     ∙ ap (λ (n : ℕ). bare_bytes other.csrc_words other.csrcs n r) places.words
 
--- parts laid as those of a packet, with the same extension and no padding, are a packet
+-- parts concatenated like those of a packet, with the same extension and no padding, are a packet
 abbrev pub bare_packet : (bytes : List ℕ) (p q : Packet) (is : IsPacket bytes p) → q.profile ≡ p.profile → q.block ≡ p.block → Fits q
     → IsPacket (bare_bytes is.csrc_words is.csrcs is.block_words q) q
 bare_packet bytes p q is same_profile same_block fits = record {
@@ -85,7 +85,7 @@ no_filler : (o : Option (List ℕ)) → is_some o ≡ false → padding_bytes o 
 no_filler None h = refl
 no_filler (Some xs) h = cc
 
--- a packet with no padding bit is laid as it is without padding
+-- a packet without padding bit equals its form without padding
 pub unpadded_is_bare : (bytes : List ℕ) (p : Packet) (is : IsPacket bytes p) → is_padded bytes ≡ false
     → bytes ≡ bare_bytes is.csrc_words is.csrcs is.block_words p
 unpadded_is_bare bytes p is unpadded =
@@ -97,7 +97,7 @@ unpadded_is_bare bytes p is unpadded =
     let rest = is.csrcs ++ extension_bytes p.profile is.block_words p.block ++ p.payload in
     is.laid ∙ rw (none, no_filler is.filler none) (append-nil (bare_bytes is.csrc_words is.csrcs is.block_words p))
 
--- what is between the fixed header and the payload
+-- the bytes between the fixed header and the payload
 pub tail_laid : (bytes : List ℕ) (p : Packet) (is : IsPacket bytes p) (end : ℕ)
     → end ≡ 12 + length is.csrcs + length (extension_bytes p.profile is.block_words p.block)
     → take (end - 12) (drop 12 bytes) ≡ is.csrcs ++ extension_bytes p.profile is.block_words p.block
@@ -108,7 +108,7 @@ tail_laid bytes p is end at_end =
     ap (take (end - 12)) (after ∙ regrouped)
     ∙ take_at (is.csrcs ++ ext) (p.payload ++ padding_bytes is.filler) (end - 12) (omega (arith, length-append is.csrcs ext))
 
--- the pieces of a header put one behind the other
+-- the concatenated pieces of a header
 pub put_together : (first second x y : ℕ) (a b c tail a' b' c' tail' w0 w1 w2 w3 w4 : List ℕ) → w0 ≡ first ∷ second ∷ [] → w1 ≡ w0 ++ a
     → w2 ≡ w1 ++ b → w3 ≡ w2 ++ c → w4 ≡ w3 ++ tail → first ≡ x → second ≡ y → a ≡ a' → b ≡ b' → c ≡ c' → tail ≡ tail'
     → w4 ≡ (x ∷ y ∷ []) ++ a' ++ b' ++ c' ++ tail'
@@ -116,7 +116,7 @@ put_together first second x y a b c tail a' b' c' tail' w0 w1 w2 w3 w4 e0 e1 e2 
     e4 ∙ ap (λ (w : List ℕ). w ++ tail) (e3 ∙ ap (λ (w : List ℕ). w ++ c) (e2 ∙ ap (λ (w : List ℕ). w ++ b) (e1 ∙ ap (λ (w : List ℕ). w ++ a) e0)))
     ∙ rw (ex, ey, ea, eb, ec, et) refl
 
--- a part of bytes is bytes
+-- a part of a list of bytes is a list of bytes
 
 behind_bytes : (front xs : List ℕ) → AreBytes (front ++ xs) → AreBytes xs
 behind_bytes [] xs fit = fit

@@ -1,4 +1,4 @@
--- What is wrapped comes back, and there is one form of each. What packets say is taken from the laws of reading, as a premise.
+-- A wrapped packet is recovered, and each form is unique. The contents of packets come from the laws of reading, as a premise.
 use Rattle.std.proofs.Common.{◌≡◌, ◌<◌, ◌≤◌, ℕ, ◌/◌, ◌%◌, ◌^◌, Bool, false, List, ◌∷◌, ◌++◌, length, drop, Option, None, refl, sym, ap, subst, ◌∙◌, arith}
 use Rattle.std.proofs.lemmas.Bool.{le-ltb}
 use Rattle.byteorder.specs.Endian.{big_bytes, big_number}
@@ -12,14 +12,14 @@ use Rattle.rtx_stream.specs.Retransmission.{IsOriginal, IsRetransmission, retran
 use Rattle.rtx_stream.specs.declared.retransmission.Rtx.{Rtx}
 use Rattle.rtx_stream.proofs.LaidOut.{bare_packet, bare_is_unpadded, same_bare, unpadded_is_bare}
 
--- a packet says what its fields say
+-- the contents of a packet are those of its fields
 abbrev pub SaysFields : Type 0
 SaysFields = (bytes : List ℕ) (p : Packet) → IsPacket bytes p → packet_of bytes ≡ p
 
 one : SaysFields → (bytes : List ℕ) (p q : Packet) → IsPacket bytes p → IsPacket bytes q → p ≡ q
 one fields bytes p q is_p is_q = sym (fields bytes p is_p) ∙ fields bytes q is_q
 
--- two packets that say the same, part by part
+-- two packets with the same contents, part by part
 same_packet : (p q : Packet) → p.marker ≡ q.marker → p.payload_type ≡ q.payload_type → p.sequence ≡ q.sequence → p.timestamp ≡ q.timestamp
     → p.ssrc ≡ q.ssrc → p.profile ≡ q.profile → p.block ≡ q.block → p.payload ≡ q.payload → p ≡ q
 same_packet p q a b c d e f g h =
@@ -85,7 +85,7 @@ no_unwrap_fault fields none original bytes s r w =
     ∙ ap (fault_with None) payload
     ∙ rw (le-ltb (length (big_bytes 2 w.said.sequence ++ w.said.payload)) 2 (omega arith)) refl
 
--- what the bytes carry
+-- the original that the bytes carry
 abbrev pub carried : ℕ → ℕ → Packet → Packet
 carried ssrc payload_type p = with_payload (drop 2 p.payload) (with_address payload_type (big_number 2 p.payload) ssrc p)
 

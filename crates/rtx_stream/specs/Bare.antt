@@ -1,5 +1,5 @@
--- A packet without its padding (RFC 4588, section 4, by which the padding of the original is removed): the same parts, laid end to
--- end with no padding bit and no padding. The code copies the parts of the header and the payload.
+-- A packet without its padding: the same parts, concatenated, with the padding bit 0 and without padding. By RFC 4588, section 4, the padding
+-- of the original is removed. The code copies the parts of the header and the payload.
 use Rattle.std.specs.Prelude.{◌≡◌, ℕ, false, is_some, List, [], ◌∷◌, ◌++◌}
 use Rattle.byteorder.specs.Endian.{big_bytes}
 use Rattle.rtp_packet.specs.Packet.{IsPacket, Packet, first_byte, second_byte, extension_bytes}

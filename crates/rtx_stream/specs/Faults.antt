@@ -6,7 +6,7 @@ use Rattle.rtp_packet.specs.Fields.{payload_of}
 use Rattle.rtx_stream.specs.declared.fault.RtxFault.{RtxFault}
 use Rattle.rtx_stream.specs.declared.fault.RtxFault.TheVariants.{Unreadable, Cut}
 
--- the fault of a packet with this RTP fault or, without one, with this payload: the original sequence number has two bytes
+-- the fault of a packet with this RTP fault or, if it has none, with this payload, which must begin with the two bytes of the original sequence number
 abbrev pub fault_with : Option RtpFault → List ℕ → Option RtxFault
 fault_with (Some fault) payload = Some (Unreadable fault)
 fault_with None payload = if nat_lt (length payload) 2 then Some Cut else None

@@ -1,6 +1,6 @@
--- A retransmission packet (RFC 4588, section 4): the original without its padding, with the payload type, the sequence number and the
--- SSRC of the retransmission stream, and with the original's sequence number as two bytes before the payload. Marker, timestamp, CSRC
--- words and header extension are the original's.
+-- A retransmission packet (RFC 4588, section 4): the original without its padding, and with the payload type, sequence number and SSRC of the
+-- retransmission stream. The original's sequence number precedes the payload as two bytes. Marker, timestamp, CSRC words and header extension
+-- are the original's.
 use Rattle.std.specs.Prelude.{◌≡◌, ℕ, false, List, ◌++◌}
 use Rattle.byteorder.specs.Endian.{big_bytes}
 use Rattle.rtp_packet.specs.Fields.{is_padded, payload_type_of, sequence_of, ssrc_of}
@@ -21,7 +21,7 @@ abbrev pub retransmitted : ℕ → Rtx → Packet → Packet
 retransmitted sequence rtx p =
     with_payload (big_bytes 2 p.sequence ++ p.payload) (with_address rtx.payload_type sequence rtx.ssrc p)
 
--- `bytes` are the retransmission packet, with this sequence number and on this stream, of the packet `original`
+-- `bytes` are the retransmission packet of the packet `original`, with this sequence number and in this stream
 pub record IsRetransmission (original : List ℕ) (sequence : ℕ) (rtx : Rtx) (bytes : List ℕ) : Type 0 where
   pub said : Packet
   pub packet : IsPacket original said
@@ -32,8 +32,7 @@ pub record IsRetransmission (original : List ℕ) (sequence : ℕ) (rtx : Rtx) (
 abbrev pub stream_of : List ℕ → Rtx
 stream_of bytes = record { ssrc = ssrc_of bytes; payload_type = payload_type_of bytes }
 
--- `original` has this SSRC and payload type, and no padding, and the bytes are its retransmission packet, except for
--- their padding
+-- `original` has this SSRC and payload type, and no padding. Apart from their padding, the bytes are its retransmission packet.
 pub record IsOriginal (bytes : List ℕ) (ssrc payload_type : ℕ) (original : List ℕ) : Type 0 where
   pub unpadded : is_padded original ≡ false
   pub source : ssrc_of original ≡ ssrc

@@ -1,9 +1,9 @@
-// Why bytes aren't unwrapped.
+// The reasons why bytes can't be unwrapped.
 
 use sfu_base::RtpFault;
 use thiserror::Error;
 
-/// Why bytes aren't a retransmission packet (RFC 4588, section 4).
+/// The reason why some bytes aren't a retransmission packet (RFC 4588, section 4).
 #[derive(Clone, Copy, Debug, PartialEq, Eq, Error)]
 pub enum RtxFault {
     /// The bytes aren't an RTP packet.

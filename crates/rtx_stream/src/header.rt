@@ -13,11 +13,11 @@ use sfu_base::PacketBuf;
 /// The length of the fixed header, in bytes (RFC 3550, section 5.1).
 const FIXED_HEADER: usize = 12;
 
-/// The length of the header extension's profile and count of words, in bytes (RFC 3550, section 5.3.1).
+/// The length of the header extension's profile and length fields, in bytes (RFC 3550, section 5.3.1).
 const EXTENSION_HEADER: usize = 4;
 
-/// Replaces the contents of `out` with the packet's header, but with the padding bit cleared, and with this payload type, sequence number
-/// and SSRC. `read` is what was read from the packet.
+/// Replaces the contents of `out` with the packet's header, but with the padding bit cleared, and with this payload type, sequence number and
+/// SSRC. `read` has the parts that were read from the packet.
 pub(crate) fn fill_header(
     packet: &[u8],
     read: &Rtp<'_>,
@@ -67,7 +67,7 @@ fn without_padding_bit(first: u8) -> u8
     }
 }
 
-/// The second byte of a header: the marker's bit above the seven bits of the payload type.
+/// The second byte of a header: the marker bit, then the seven bits of the payload type.
 fn marked(marker: bool, payload_type: u8) -> u8
     requires { payload_type < 128 }
     ensures { result ≡ second_byte marker payload_type }

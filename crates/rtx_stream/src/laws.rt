@@ -7,7 +7,7 @@ ghost use Rattle.rtx_stream.specs.Faults.{unwrap_fault};
 ghost use Rattle.rtx_stream.specs.Retransmission.{IsOriginal, IsRetransmission};
 ghost use Rattle.rtx_stream.specs.declared.retransmission.Rtx.{Rtx};
 
-/// For a packet, a sequence number and a stream there is at most one retransmission packet.
+/// A packet has at most one retransmission packet with a given sequence number in a given stream.
 pub fn a_packet_has_one_retransmission()
     ensures { (packet bytes others : List ℕ) (seq : ℕ) (rtx : Rtx) → IsRetransmission packet seq rtx bytes
         → IsRetransmission packet seq rtx others → bytes ≡ others }
@@ -15,7 +15,7 @@ pub fn a_packet_has_one_retransmission()
     rtp_packet::a_packet_is_read();
 }
 
-/// A packet has at most one form without padding. If its padding bit is 0, that form is the packet itself.
+/// There is at most one form of a packet without padding. If the packet's padding bit is 0, that form is the packet itself.
 pub fn a_packet_without_padding_is_bare()
     ensures one { (packet bare other : List ℕ) → IsBare packet bare → IsBare packet other → bare ≡ other }
     ensures same { (packet bare : List ℕ) → is_padded packet ≡ false → IsBare packet bare → bare ≡ packet }
@@ -23,7 +23,7 @@ pub fn a_packet_without_padding_is_bare()
     rtp_packet::a_packet_is_read();
 }
 
-/// Bytes carry at most one original for an SSRC and a payload type.
+/// With a given SSRC and payload type, the bytes of a retransmission packet have at most one original.
 pub fn a_retransmission_has_one_original()
     ensures { (bytes original other : List ℕ) (ssrc payload_type : ℕ) → IsOriginal bytes ssrc payload_type original
         → IsOriginal bytes ssrc payload_type other → original ≡ other }
@@ -31,7 +31,7 @@ pub fn a_retransmission_has_one_original()
     rtp_packet::a_packet_is_read();
 }
 
-/// A retransmission packet has none of the faults for which `unwrap` refuses bytes.
+/// `unwrap` finds no fault in a retransmission packet.
 pub fn each_retransmission_unwraps()
     ensures { (packet bytes : List ℕ) (seq : ℕ) (rtx : Rtx) → IsRetransmission packet seq rtx bytes → unwrap_fault bytes ≡ None }
 {

@@ -1,5 +1,5 @@
-//! Retransmission packets (RFC 4588, section 4): wraps a packet for a separate retransmission stream, and unwraps it again. No call allocates
-//! memory.
+//! Retransmission packets (RFC 4588, section 4). A packet is wrapped for a separate retransmission stream, and unwrapped again by the receiver.
+//! No call allocates memory.
 #![tactic(auto)]
 
 mod fault;

@@ -1,4 +1,4 @@
-// The packet that a retransmission packet carries.
+// Recovers the packet that a retransmission packet carries.
 
 ghost use Rattle.std.specs.Prelude.{◌≡◌, ◌<◌, ◌≤◌, ℕ, List, None, Some, IsOk, IfErr, OnErr, OnOk, length};
 ghost use Rattle.rtp_packet.specs.Fields.{payload_type_of, ssrc_of};
@@ -16,9 +16,9 @@ use sfu_base::PacketBuf;
 /// The length of the original sequence number, in bytes.
 const ORIGINAL_SEQUENCE: usize = 2;
 
-/// Replaces the contents of `out` with the original packet that a retransmission packet carries (RFC 4588, section 4). The original has this
-/// SSRC and payload type, and no padding. Errors, which leave `out` unchanged: `Unreadable`: the bytes aren't an RTP packet; else `Cut`: the
-/// payload has fewer than two bytes.
+/// Replaces the contents of `out` with the original packet that a retransmission packet carries (RFC 4588, section 4). The original gets this
+/// SSRC and payload type, and has no padding. Returns `Unreadable` if the bytes aren't an RTP packet, and `Cut` if the payload has fewer than
+/// two bytes. An error leaves `out` unchanged.
 pub fn unwrap(
     bytes: &[u8],
     ssrc: u32,
@@ -30,7 +30,7 @@ pub fn unwrap(
     ensures ok { OnOk result (unwrap_fault bytes.now ≡ None) }
     ensures fault { IfErr result (λ e. unwrap_fault bytes.now ≡ Some e) }
     ensures original { OnOk result (IsOriginal bytes.now ssrc payload_type out.new) }
-    // a packet that was wrapped is returned, without its padding
+    // if these bytes came from wrapping a packet, the result is that packet without its padding
     ensures back { (packet : List ℕ) (seq : ℕ) (rtx : Rtx) → IsRetransmission packet seq rtx bytes.now
         → ssrc_of packet ≡ ssrc → payload_type_of packet ≡ payload_type → OnOk result (IsBare packet out.new) }
     ensures err { OnErr result (out.new ≡ out.old) }

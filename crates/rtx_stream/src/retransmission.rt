@@ -1,4 +1,4 @@
-// A packet wrapped for a retransmission stream.
+// Wraps a packet for a retransmission stream.
 
 ghost use Rattle.std.specs.Prelude.{◌≡◌, ◌<◌, ◌≤◌, None, length};
 ghost use Rattle.rtp_packet.specs.Faults.{first_fault};
@@ -9,7 +9,7 @@ use crate::header::fill_header;
 use rtp_packet::read;
 use sfu_base::PacketBuf;
 
-/// A stream of retransmission packets, separate from the stream of the originals (RFC 4588, section 5.3).
+/// A stream of retransmission packets, separate from the stream of the original packets (RFC 4588, section 5.3).
 #[derive(Clone, Copy, Debug, PartialEq, Eq)]
 pub struct Rtx {
     /// The stream's SSRC.
@@ -18,9 +18,9 @@ pub struct Rtx {
     pub payload_type: u8,
 }
 
-/// Replaces the contents of `out` with the retransmission packet (RFC 4588, section 4) of a packet that [`read`](rtp_packet::read) accepts.
-/// The retransmission packet has the SSRC and payload type of `rtx` and the sequence number `seq`. The packet's own sequence number is put
-/// as two bytes before the payload, and its padding is left out.
+/// Replaces the contents of `out` with the retransmission packet (RFC 4588, section 4) of `packet`, which [`read`](rtp_packet::read) must
+/// accept. The retransmission packet has the SSRC and payload type of `rtx` and the sequence number `seq`. The payload is the sequence number
+/// of `packet` in two bytes, followed by the payload of `packet`. Padding is left out.
 pub fn wrap(packet: &[u8], seq: u16, rtx: &Rtx, out: &mut PacketBuf)
     requires reads { first_fault packet.now ≡ None }
     requires room { length packet.now ≤ 2046 }

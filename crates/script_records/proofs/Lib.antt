@@ -1,2 +1,4 @@
 pub mod Numbers
 pub mod RecordLaws
+pub mod RecordScans
+pub mod Alike

@@ -1,4 +1,4 @@
--- Numbers in bytes: what is read is there, and what is there is read.
+-- Numbers in bytes: a number that is read is there, and a number that is there is read.
 use Rattle.std.proofs.Common.{◌≡◌, ◌<◌, ◌≤◌, ℕ, zero, suc, ◌+◌, ◌^◌, ◌/◌, ◌%◌, List, [], ◌∷◌, ◌++◌, length, take, drop, refl, sym, ap, ◌∙◌, arith, append_assoc, append-nil, length-drop}
 use Rattle.std.specs.Int.{from_be_bytes, w64}
 use Rattle.std.specs.List.{flat_map}
@@ -23,7 +23,7 @@ take_bytes (suc n) [] fits i = omega arith
 take_bytes (suc n) (x ∷ xs) fits zero = fits 0
 take_bytes (suc n) (x ∷ xs) fits (suc i) = take_bytes n xs (λ k. fits (suc k)) i
 
--- ---- one number: the bytes of a number that was read are those that it was read from
+-- ---- one number: the bytes of a number that was read are those from which it was read
 
 laid_1 : (bytes : List ℕ) → 1 ≤ length bytes → AreBytes bytes → big_bytes 1 (big_number 1 bytes) ++ drop 1 bytes ≡ bytes
 laid_1 (a ∷ rest) room fits = let n0 : big_number 1 (a ∷ rest) % 256 ≡ a = omega (arith, fits 0) in ap (λ (x : ℕ). x ∷ rest) n0
@@ -104,7 +104,7 @@ all_within (f ∷ fs) bytes fits =
     place_within f (big_number (width_of f) bytes) fs (numbers_at fs (drop (width_of f) bytes)) (one_within f bytes fits)
     (all_within fs (drop (width_of f) bytes) (drop_bytes (width_of f) bytes fits))
 
--- the numbers that were read, written again, and what follows them
+-- the numbers that were read, written again, and the bytes after them
 pub numbers_laid : (fs : List Field) (bytes : List ℕ) → size_of fs ≤ length bytes → AreBytes bytes
     → flat_map place_bytes (places_of fs (numbers_at fs bytes)) ++ drop (size_of fs) bytes ≡ bytes
 numbers_laid [] bytes room fits = refl
@@ -116,7 +116,7 @@ numbers_laid (f ∷ fs) bytes room fits =
     ∙ ap (λ (x : List ℕ). place_bytes (place_of f (big_number w bytes)) ++ x) others
     ∙ one_laid f bytes (omega arith) fits
 
--- the same where nothing follows it
+-- the same if nothing follows
 pub whole_laid : (fs : List Field) (bytes : List ℕ) → length bytes ≡ size_of fs → AreBytes bytes → bytes ≡ flat_map place_bytes (places_of fs (numbers_at fs bytes))
 whole_laid fs bytes same fits =
     let laid = numbers_laid fs bytes (omega arith) fits in
@@ -124,7 +124,7 @@ whole_laid fs bytes same fits =
     sym (sym (append-nil (flat_map place_bytes (places_of fs (numbers_at fs bytes))))
     ∙ ap (λ (x : List ℕ). flat_map place_bytes (places_of fs (numbers_at fs bytes)) ++ x) (sym none) ∙ laid)
 
--- what was written is read, whatever follows it
+-- a number that was written is read, whatever follows it
 pub numbers_back : (fs : List Field) (ns rest : List ℕ) → length ns ≡ length fs → AreWithin fs ns
     → numbers_at fs (flat_map place_bytes (places_of fs ns) ++ rest) ≡ ns
 numbers_back [] [] rest same h = refl

@@ -1,4 +1,4 @@
--- A body is read as a call exactly if it is the call's body.
+-- A body is read as a call if and only if it is the call's body.
 use Rattle.std.proofs.Common.{◌≡◌, ◌≤◌, ℕ, suc, ◌+◌, Bool, true, false, cond, leb, ◌&&◌, eqb, List, [], ◌∷◌, ◌++◌, length, drop, refl, sym, ap, ◌∙◌, subst, arith, Option, Some, None, append-nil, length-drop}
 use Rattle.std.specs.List.{flat_map}
 use Rattle.std.specs.Option.{option_map_or}
@@ -56,7 +56,7 @@ kind_is code k =
     (pick code 14 kind.Why k _ _ refl refl
     (no_kind code k))))))))))))))
 
--- ---- what is read is in the body
+-- ---- a call that is read is in the body
 
 exactly : (count n : ℕ) → eqb (suc count) (suc n) ≡ true → count ≡ n
 exactly count n e = grind (arith, nat_tests)
@@ -78,7 +78,7 @@ packet_found bytes said long short fits e =
       is = ap (λ (x : List ℕ). 4 ∷ x) (sym laid ∙ ap (λ (x : List ℕ). flat_map place_bytes (places_of fs (numbers_at fs bytes)) ++ x) (sym (append-nil (drop 12 bytes))));
     })
 
--- the fields of a kind, and the call that is made of them, are the call's own places
+-- the fields of a kind, and the call with their numbers, are the call's own places
 whole_found : (fs : List Field) (code : ℕ) (bytes : List ℕ) (made said : Call) → length bytes ≡ size_of fs → AreBytes bytes → Some made ≡ Some said
     → HasLine made → code ∷ flat_map place_bytes (places_of fs (numbers_at fs bytes)) ≡ body_of made → IsBody said (code ∷ bytes)
 whole_found fs code bytes made said same fits e within is =
@@ -154,7 +154,7 @@ call_found (code ∷ bytes) said fits e =
     let h = chosen (is_in_table (code ∷ bytes)) (call_behind code bytes) said e in
     behind_found code bytes said _ refl h.0 (λ i. fits (suc i)) h.1
 
--- ---- what is in the body is read
+-- ---- a call that is in the body is read
 
 packet_fits : (count all : ℕ) → 1 ≤ count → count ≤ 2048 → all ≡ 13 + count → (leb 14 all && leb all 2061) ≡ true
 packet_fits count all some few is = grind (arith, nat_tests)

@@ -1,4 +1,4 @@
--- The kinds of records: their numbers, and how long their bodies are. Own rule.
+-- The kinds of records: their numbers, and the lengths of their bodies. Own rule.
 use Rattle.std.specs.Prelude.{ℕ, ◌==◌, ◌&&◌, nat_le, Bool, false, if◌then◌else◌, List, [], ◌∷◌, length, Option, Some, None}
 use Rattle.std.specs.Option.{option_map_or}
 use Rattle.script_records.specs.declared.kind.RecordKind.{RecordKind}
@@ -40,7 +40,7 @@ kind_named code =
     else if code == 14 then Some Why
     else None
 
--- whether a body of the kind may have this many bytes, including the kind's own
+-- whether a body of the kind may have this many bytes, including the byte of the kind
 abbrev pub has_length : RecordKind → ℕ → Bool
 has_length PublishPlain count = count == 13
 has_length PublishLayered count = count == 14
@@ -57,11 +57,11 @@ has_length KeyWanted count = count == 5
 has_length Plead count = count == 5
 has_length Why count = count == 13
 
--- whether a body may begin with this number and have this many bytes
+-- whether a body may begin with this number and have this many bytes in all
 abbrev pub may_have : ℕ → ℕ → Bool
 may_have code count = option_map_or (λ kind. has_length kind count) (kind_named code) false
 
--- whether the body is in the table of records: its first byte is the number of a kind, and its length is one of that kind's
+-- whether the body is in the table of records: its first byte is the number of a kind, and its length is one that this kind may have
 abbrev pub is_in_table : List ℕ → Bool
 is_in_table [] = false
 is_in_table (code ∷ fields) = may_have code (length (code ∷ fields))

@@ -2,3 +2,5 @@ pub mod Kinds
 pub mod ReadRecords
 pub mod Records
 pub mod Values
+pub mod RecordCut
+pub mod Script

@@ -1,4 +1,4 @@
--- The call that a body says, as a function, which computes on whole scripts. The code goes over an array of fields with an index.
+-- The call of a body, as a function, which computes on whole scripts. The code visits an array of fields by index.
 use Rattle.std.specs.Prelude.{ℕ, ◌+◌, ◌/◌, if◌then◌else◌, List, [], ◌∷◌, drop, Option, Some, None}
 use Rattle.byteorder.specs.Endian.{big_number}
 use Rattle.sfu_base.specs.declared.call.Call.{Call}
@@ -22,7 +22,7 @@ abbrev pub size_of : List Field → ℕ
 size_of [] = 0
 size_of (field ∷ fields) = width_of field + size_of fields
 
--- the numbers of the fields, one after the other from the start of the bytes, in network byte order
+-- the numbers of the fields, one after another from the start of the bytes, in network byte order
 abbrev pub numbers_at : List Field → List ℕ → List ℕ
 numbers_at [] bytes = []
 numbers_at (field ∷ fields) bytes = big_number (width_of field) bytes ∷ numbers_at fields (drop (width_of field) bytes)
@@ -32,7 +32,7 @@ abbrev pub of_four : (ℕ → ℕ → ℕ → ℕ → Call) → List ℕ → Opt
 of_four make (a ∷ b ∷ c ∷ d ∷ []) = Some (make a b c d)
 of_four make numbers = None
 
--- the call of a kind and of the bytes after it, exactly as many as the kind has
+-- the call of a kind and of the bytes after it, if there are exactly as many as the kind has
 abbrev pub call_at : RecordKind → List ℕ → Option Call
 call_at kind.PublishPlain bytes =
     of_three (λ track ssrc hold. call.Publish track Plain ssrc hold) (numbers_at (Number32 ∷ Ssrc ∷ Number32 ∷ []) bytes)
@@ -55,11 +55,11 @@ call_at kind.KeyWanted bytes = of_one (λ track. call.KeyWanted track) (numbers_
 call_at kind.Plead bytes = of_one (λ subscriber. call.Plead subscriber) (numbers_at (Number32 ∷ []) bytes)
 call_at kind.Why bytes = of_two (λ subscriber number. call.Why subscriber number) (numbers_at (Number32 ∷ Number64 ∷ []) bytes)
 
--- the call of a first byte and the bytes after it
+-- the call of a body with this first byte and these bytes after it
 abbrev pub call_behind : ℕ → List ℕ → Option Call
 call_behind code bytes = kind_named code >>= (λ kind. call_at kind bytes)
 
--- the call that a body says
+-- the call of a body
 abbrev pub call_of : List ℕ → Option Call
 call_of [] = None
 call_of (code ∷ bytes) = if is_in_table (code ∷ bytes) then call_behind code bytes else None

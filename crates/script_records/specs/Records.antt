@@ -1,4 +1,4 @@
--- A record: its length and its body, and which body a call has. Own rule.
+-- A record, which has a length and a body, and the body of each call. Own rule.
 use Rattle.std.specs.Prelude.{◌≡◌, ℕ, ◌/◌, List, [], ◌∷◌, ◌++◌, length}
 use Rattle.std.specs.List.{flat_map}
 use Rattle.byteorder.specs.Endian.{big_bytes}
@@ -8,7 +8,7 @@ use Rattle.sfu_base.specs.declared.call.Kind.TheVariants.{Plain, Layered}
 use Rattle.script_texts.specs.Grammar.{Place, Word, Number, Ssrc, Hex, Address}
 use Rattle.script_texts.specs.Lines.{HasLine, places}
 
--- the first number of a call's body
+-- the first number of a call's body: its kind
 abbrev pub kind_of : Call → ℕ
 kind_of (Publish track Plain ssrc hold) = 1
 kind_of (Publish track (Layered id) ssrc hold) = 2
@@ -25,8 +25,8 @@ kind_of (KeyWanted track) = 12
 kind_of (Plead subscriber) = 13
 kind_of (Why subscriber number) = 14
 
--- The bytes in a body for a place of the call's line: a number in as many bytes as its type has, in network byte order; a packet's bytes
--- unchanged. A word has no bytes: the kind says it.
+-- The bytes in a body for a place of the call's line. A number has the bytes of its type, in network
+-- byte order; a packet's bytes are unchanged. A word has no bytes, since the kind determines it.
 abbrev pub place_bytes : Place → List ℕ
 place_bytes (Word text) = []
 place_bytes (Number bits n) = big_bytes (bits / 8) n
@@ -38,15 +38,15 @@ place_bytes (Address ip port) = big_bytes 4 ip ++ big_bytes 2 port
 abbrev pub body_of : Call → List ℕ
 body_of call = kind_of call ∷ flat_map place_bytes (places call)
 
--- a body after its length in two bytes
+-- a body preceded by its length in two bytes
 abbrev pub framed : List ℕ → List ℕ
 framed body = big_bytes 2 (length body) ++ body
 
--- the record as it is written
+-- the record in its written form
 abbrev pub record_of : Call → List ℕ
 record_of call = framed (body_of call)
 
--- The body is that of the call, whose numbers are within their types and whose packet has 1 to 2,048 bytes.
+-- The body is that of the call. The call's numbers are within their types, and its packet has 1 to 2,048 bytes.
 pub record IsBody (call : Call) (body : List ℕ) : Type 0 where
   pub within : HasLine call
   pub is : body ≡ body_of call

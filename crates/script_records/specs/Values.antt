@@ -13,6 +13,6 @@ value_bytes (Of32 n) = big_bytes 4 n
 value_bytes (Of64 n) = big_bytes 8 n
 value_bytes (Bytes bytes) = bytes.now
 
--- the bytes of values, one after the other
+-- the bytes of values, one value after another
 abbrev pub values_bytes : List Value → List ℕ
 values_bytes values = flat_map value_bytes values

@@ -2,7 +2,7 @@
 ghost use Rattle.std.specs.Prelude.{◌≡◌};
 ghost use Rattle.script_records.specs.Kinds.{code_of, has_length, kind_named, may_have};
 
-/// The kind of a record: the number of the kind is the first byte of its body.
+/// The kind of a record. Its number is the first byte of the record's body.
 #[derive(Clone, Copy, Debug, PartialEq, Eq)]
 pub enum RecordKind {
     PublishPlain = 1,
@@ -22,7 +22,7 @@ pub enum RecordKind {
 }
 
 impl RecordKind {
-    /// The kind with this number, or `None` if there is none.
+    /// Returns the kind with this number, or `None` if there is none.
     pub fn named(code: u8) -> Option<RecordKind>
         ensures { result ≡ kind_named code }
     {
@@ -45,14 +45,14 @@ impl RecordKind {
         }
     }
 
-    /// The number of this kind.
+    /// Returns the number of this kind.
     pub fn code(self) -> u8
         ensures { result ≡ code_of self }
     {
         self as u8
     }
 
-    /// Whether a body of this kind may have `length` bytes, including the byte of the kind.
+    /// Returns whether a body of this kind may have `length` bytes in all. The first of them is the kind's number.
     pub fn has_length(self, length: usize) -> bool
         ensures { result ≡ has_length self length }
     {
@@ -72,8 +72,8 @@ impl RecordKind {
     }
 }
 
-/// Whether the body of a record may begin with the byte `code` and have `length` bytes, that byte included. Such a body is in the table of
-/// records, whatever its other bytes are. Takes no memory.
+/// Returns whether the body of a record may begin with the byte `code` and have `length` bytes in
+/// all. Such a body is in the table of records, whatever its other bytes are. Allocates no memory.
 pub fn may_have_length(code: u8, length: usize) -> bool
     ensures { result ≡ may_have code length }
 {

@@ -137,7 +137,7 @@ fn why(bytes: &[u8]) -> Call
     }
 }
 
-/// The number of the track or subscriber, for a kind with no other number.
+/// Returns the number of the track or subscriber, for a kind whose body has no other number.
 pub fn number(bytes: &[u8]) -> u32
     requires { length bytes.now ≡ 4 }
     ensures { numbers_at (Field.Number32 ∷ []) bytes.now ≡ result ∷ [] }
@@ -146,7 +146,7 @@ pub fn number(bytes: &[u8]) -> u32
     number as u32
 }
 
-// The call of this kind with these bytes after the kind.
+// Returns the call of a body of this kind; `bytes` are the body's bytes after the kind.
 #[inline(always)]
 fn call(kind: RecordKind, bytes: &[u8]) -> Call
     requires { has_length kind (1 + length bytes.now) ≡ true }
@@ -197,8 +197,8 @@ fn said(body: &[u8]) -> Result<Call, NoRecord>
     }
 }
 
-/// Reads the body of a record, which is the bytes after the length, as a call. `NoRecord` exactly when the body says no call. Takes no
-/// memory.
+/// Reads the body of a record, which is all bytes after its length, as a call. Returns
+/// `NoRecord` exactly when the bytes aren't the body of a call. Allocates no memory.
 pub fn read_record(body: &[u8]) -> Result<Call, NoRecord>
     ensures value { result_ok result ≡ call_of body.now }
     ensures ok { IfOk result (λ said. IsBody said body.now) }

@@ -7,7 +7,7 @@ use sfu_base::{Blob, Call, PacketBuf};
 use sfu_script::{read_call, write_call};
 use std::test::Fail;
 
-// Lines of calls, each with its record. Numbers are 0 and the greatest of their type.
+// Lines of calls, each with its record. The numbers in them are 0 and the greatest of their type.
 const RECORDS: [(&[u8], &[u8]); 31] = [
     (
         b"publish 1 plain 11111111 100",
@@ -93,7 +93,7 @@ const RECORDS: [(&[u8], &[u8]); 31] = [
     ),
 ];
 
-// Whether `write_call` and `write_record` may be called with this call.
+// Returns whether `write_call` and `write_record` may be called with this call.
 fn has_bytes(call: &Call) -> bool
     ensures { result ≡ true → HasBytes call.now }
 {
@@ -122,7 +122,7 @@ fn lines_are_converted_to_records_and_back(rt: HostRuntime) -> Result<(), Fail> 
     Ok(())
 }
 
-// The table in another order; the longest packet and a body that says no call precede each record.
+// The table in another order. Before each record the reader reads the longest packet, and a body that isn't one of a call.
 #[test]
 fn a_reader_keeps_nothing_of_the_record_before(rt: HostRuntime) -> Result<(), Fail> {
     let mut longest = [0xa5; 2061];
@@ -225,7 +225,7 @@ fn a_call_becomes_a_record(rt: HostRuntime) -> Result<(), Fail> {
     let mut script = Blob::new(rt.alloc());
     write_record(&Call::Take { subscriber: 1 }, &mut script)?;
     assert_eq!(rt; script.bytes().len(), 7);
-    let (length, body) = script.bytes().split_at(2); // in front of the body stands its length
+    let (length, body) = script.bytes().split_at(2); // the length precedes the body
     assert_eq!(rt; length, b"\x00\x05".as_slice());
     assert_eq!(rt; body, b"\x09\x00\x00\x00\x01".as_slice());
     assert!(rt; may_have_length(body[0], body.len()));

@@ -21,7 +21,7 @@ pub enum Value<'a> {
 }
 
 impl Value<'_> {
-    // The number of bytes of the value.
+    // Returns the number of bytes of the value.
     fn size(&self) -> usize
         ensures { result ≡ length (value_bytes self.now) }
     {
@@ -35,7 +35,7 @@ impl Value<'_> {
     }
 }
 
-/// The number of bytes of all values.
+/// Returns the number of bytes of all values together.
 pub fn size(values: &[Value]) -> usize
     requires { length (values_bytes values.now) < 2 ^ 16 }
     ensures { result ≡ length (values_bytes values.now) }

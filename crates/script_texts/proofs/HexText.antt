@@ -11,13 +11,13 @@ use Rattle.hex.specs.Hex.{encode_with, encode_lower, lower_digits}
 pub length_line : (bytes : List ℕ) → length (codes "packet " ++ (encode_lower bytes ++ 10 ∷ [])) ≡ 2 * length bytes + 8
 length_line bytes = omega (arith, length-append (encode_lower bytes) (10 ∷ []), length-encode_with lower_digits bytes)
 
--- ---- both digits of a byte in one word
+-- ---- both digits of a byte are computed in one word
 
--- the word that is made of the two halves of a byte
+-- the word that consists of the two halves of a byte
 abbrev word_of : ℕ → ℕ → ℕ
 word_of high low = high + low * 256 % 65536 + 12336 + 39 * bit_and ((high + low * 256 % 65536 + 1542) / 16) 257
 
--- whether its bytes are the digits
+-- whether the word's bytes are the digits
 abbrev has_digits : ℕ → Bool
 has_digits b =
     let word : ℕ = word_of (b / 16) (bit_and b 15) in
@@ -36,7 +36,7 @@ digits_in_word b high low small is_high is_low =
     let second : word / 256 % 256 ≡ slice_index lower_digits (b % 16) = eqb-true _ _ both.1 in
     ap (λ (w : ℕ). w % 256 ∷ w / 256 % 256 ∷ []) same ∙ rw (first, second) refl
 
--- one byte more is written
+-- one more byte is written
 pub pair_written : (bytes digits pair : List ℕ) (i b : ℕ) → i < length bytes → b ≡ slice_index bytes i → pair ≡ encode_lower (b ∷ [])
     → length digits ≡ 2 * length bytes → take (2 * i) digits ++ encode_lower (drop i bytes) ≡ encode_lower bytes
     → take (2 * (i + 1)) (slice_set (slice_set digits (2 * i) (slice_index pair 0)) (2 * i + 1) (slice_index pair 1)) ++ encode_lower (drop (i + 1) bytes) ≡ encode_lower bytes

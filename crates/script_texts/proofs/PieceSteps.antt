@@ -1,4 +1,4 @@
--- Words put into a buffer one after another, and the space that they take.
+-- Words that are appended to a buffer one after another, and the space that they need.
 use Rattle.std.proofs.Common.{◌≡◌, ◌<◌, ◌≤◌, ℕ, ◌+◌, List, [], ◌∷◌, ◌++◌, length, drop, get_or, sym, ap, ◌∙◌, arith, append_assoc}
 use Rattle.std.specs.List.{flat_map}
 use Rattle.std.proofs.lemmas.List.{drop_more, length-append}

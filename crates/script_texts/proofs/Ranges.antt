@@ -1,4 +1,4 @@
--- A fact of each element that was read is one of the list.
+-- A fact about each element that was read is a fact about the list.
 use Rattle.std.proofs.Common.{◌<◌, ℕ, zero, suc, ◌^◌, List, [], ◌∷◌, length, get_or, map, arith}
 use Rattle.hex.specs.Hex.{IsBytes}
 use Rattle.script_texts.specs.Grammar.{Number, AllWithin}

@@ -1,4 +1,4 @@
--- The text written for places spells these places.
+-- The text that is written for places is a text of these places.
 use Rattle.std.proofs.Common.{◌<◌, ℕ, zero, suc, ◌^◌, ◌/◌, ◌%◌, List, [], ◌∷◌, refl, arith}
 use Rattle.std.proofs.lemmas.List.{append-nil}
 use Rattle.std.specs.Int.{to_be_bytes, w32}

@@ -4,7 +4,7 @@ use Rattle.forwarding_model.specs.declared.complaint.Complaint.{Complaint}
 use Rattle.forwarding_model.specs.declared.complaint.Complaint.TheVariants.{Unread, OtherSource, Sequence, NoStructure, NotWhole, MissingReference}
 use Rattle.script_texts.specs.Grammar.{Place, Word, Number, Ssrc, text_of}
 
--- the places of a complaint; numbers of RTP packets and frames are those on the wire
+-- the places of a complaint; the numbers of packets and frames are those in the packets
 abbrev pub complaint_places : Complaint → List Place
 complaint_places Unread = Word (codes "unread") ∷ []
 complaint_places (OtherSource had got) = Word (codes "othersource") ∷ Ssrc had ∷ Ssrc got ∷ []

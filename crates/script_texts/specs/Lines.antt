@@ -25,11 +25,11 @@ places (KeyWanted track) = Word (codes "key") ∷ Number 32 track ∷ []
 places (Plead subscriber) = Word (codes "plead") ∷ Number 32 subscriber ∷ []
 places (Why subscriber number) = Word (codes "why") ∷ Number 32 subscriber ∷ Number 64 number ∷ []
 
--- The line says the call.
+-- The line is one of this call.
 abbrev pub IsLine : Call → List ℕ → Type 0
 IsLine call line = Spells (places call) line
 
--- the line as it is written
+-- the line in its written form
 abbrev pub line_of : Call → List ℕ
 line_of call = text_of (places call)
 
@@ -37,7 +37,7 @@ line_of call = text_of (places call)
 abbrev pub HasLine : Call → Type 0
 HasLine call = AllWithin (places call)
 
--- A packet has at least one byte, as a call must to be written.
+-- A packet has at least one byte; only such a call can be written.
 abbrev pub HasBytes : Call → Type 0
 HasBytes (Packet track moment bytes) = 0 < length bytes
 HasBytes call = Unit {0}

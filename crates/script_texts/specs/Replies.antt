@@ -17,7 +17,7 @@ abbrev pub or_none : ℕ → Option ℕ → Place
 or_none bits None = Word (codes "none")
 or_none bits (Some n) = Number bits n
 
--- why a frame was or wasn't forwarded
+-- the reason why a frame was or wasn't forwarded
 abbrev pub verdict_places : Verdict → List Place
 verdict_places Passed = Word (codes "passed") ∷ []
 verdict_places (NotOfTarget target) = Word (codes "notoftarget") ∷ or_none 8 target ∷ []
@@ -36,7 +36,7 @@ fault_word Csrc = codes "csrc"
 fault_word Extension = codes "extension"
 fault_word Padding = codes "padding"
 
--- after the word `refused`, except for the two refusals that have a text of their own
+-- a refusal begins with the word `refused`; only two refusals have other texts
 abbrev pub refused : List Place → List Place
 refused places = Word (codes "refused") ∷ places
 
@@ -59,7 +59,7 @@ refusal_places (refusal.TooOld oldest) = refused (Word (codes "tooold") ∷ Numb
 refusal_places refusal.Plain = refused (Word (codes "plain") ∷ [])
 refusal_places refusal.NoMemory = refused (Word (codes "nomemory") ∷ [])
 
--- whether a key frame is wanted
+-- the word that says whether a key frame is wanted
 abbrev pub key_word : Bool → List ℕ
 key_word true = codes "yes"
 key_word false = codes "no"
@@ -77,25 +77,25 @@ answer_places (Refused why) = refusal_places why
 abbrev pub answer_text : Answer → List ℕ
 answer_text answer = text_of (answer_places answer)
 
--- An answer that a room can return: each number is within its type, and a packet is bytes.
+-- An answer that a room can return: each number is within its type, and a packet consists of bytes.
 abbrev pub HasText : Answer → Type 0
 HasText (Sent bytes) = IsBytes bytes
 HasText answer = AllWithin (answer_places answer)
 
--- A reply whose text is bounded: all but packets and numbers.
+-- A reply whose text has a bounded length: any reply but packets and numbers.
 abbrev pub IsShort : Reply → Type 0
 IsShort reply.Packet = ⊥
 IsShort reply.Names = ⊥
 IsShort answered = Unit {0}
 
--- the text of a line outside the grammar
+-- the text that names a line outside the grammar
 abbrev pub line_fault_text : ℕ → List ℕ
 line_fault_text line = codes "line " ++ decimal line
 
--- the text of a record outside the grammar
+-- the text that names a record outside the grammar
 abbrev pub record_fault_text : ℕ → List ℕ
 record_fault_text record_number = codes "record " ++ decimal record_number
 
--- the text about the line of a packet that completes a frame with an element that isn't an OBU
+-- the text that names the line of a packet that completes a frame in which an element isn't an OBU
 abbrev pub obu_text : ℕ → List ℕ
 obu_text line = text_of (Word (codes "line") ∷ Number 32 line ∷ Word (codes "obu") ∷ [])

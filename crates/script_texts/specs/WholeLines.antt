@@ -2,10 +2,10 @@
 use Rattle.std.specs.Prelude.{ℕ, List, [], ◌∷◌, ◌++◌}
 use Rattle.script_texts.specs.Replies.{line_fault_text, record_fault_text}
 
--- the line about a line outside the grammar
+-- the output line that names a line outside the grammar
 abbrev pub fault_line : ℕ → List ℕ
 fault_line number = line_fault_text number ++ 10 ∷ []
 
--- the line about a record outside the grammar
+-- the output line that names a record outside the grammar
 abbrev pub record_fault_line : ℕ → List ℕ
 record_fault_line number = record_fault_text number ++ 10 ∷ []

@@ -1,7 +1,7 @@
-// The range of bytes, for contracts.
+// The range of a byte's values, for contracts.
 ghost use Rattle.hex.specs.Hex.{IsBytes};
 
-/// Shows that each byte is below 256. A contract knows this only of a byte that was read, so this reads each byte. No other effect.
+/// Shows that each byte is below 256. A contract knows this only of bytes that were read, so the function reads each byte. It has no other effect.
 #[inline(always)]
 pub fn are_bytes(bytes: &[u8])
     ensures { IsBytes bytes.now }

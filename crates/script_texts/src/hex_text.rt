@@ -1,4 +1,4 @@
-// Bytes in hex digits, and the line of a packet. Both are written in place.
+// Bytes in hex digits, and the line of a packet. Both are written directly into the output.
 ghost use Rattle.std.specs.Prelude.{◌≡◌, ◌+◌, ◌++◌, ◌∷◌, ◌*◌, ◌≤◌, [], codes, length, OnErr, OnOk};
 ghost use Rattle.hex.specs.Hex.{encode_lower};
 ghost use Rattle.sfu_base.specs.Answer.{Sent};
@@ -6,13 +6,13 @@ ghost use Rattle.script_texts.specs.Replies.{answer_text};
 
 use sfu_base::{Blob, NoMemory, PacketBuf, Text};
 
-// The two digits of a byte. Both are computed in one word and without a table, so that the compiler can compute the digits of eight bytes
+// Returns the two digits of a byte. Both are computed in one word and without a table, so that the compiler can compute the digits of eight bytes
 // at once.
 fn digits_of(byte: u8) -> [u8; 2]
     ensures { result ≡ encode_lower (byte ∷ []) }
 {
     let nibbles = u16::from(byte >> 4) + (u16::from(byte & 15) << 8);
-    // 1 at the place of each nibble whose digit is a letter
+    // 1 in each nibble whose digit is a letter
     let letters = ((nibbles + 0x0606) >> 4) & 0x0101;
     (nibbles + 0x3030 + 39 * letters).to_le_bytes()
 }
@@ -29,12 +29,12 @@ fn write_hex(bytes: &[u8], digits: &mut [u8])
     }
 }
 
-// The text before the digits in a packet's line, and the text after them.
+// The text before the digits of a packet's line, and the text after them.
 const HEAD: &[u8; 7] = b"packet ";
 
 const END: &[u8; 1] = b"\n";
 
-// Overwrites `line` with the line of a packet, which has exactly this length.
+// Overwrites `line`, which is as long as the packet's line, with that line.
 fn write_line(bytes: &[u8], line: &mut [u8])
     requires { length line.old ≡ 2 * length bytes.now + 8 }
     ensures { line.new ≡ codes "packet " ++ (encode_lower bytes.now ++ 10 ∷ []) }
@@ -46,7 +46,7 @@ fn write_line(bytes: &[u8], line: &mut [u8])
     end.copy_from_slice(END);
 }
 
-// Bytes in hex digits. There are at most 2,048 bytes, as in a packet, so the number of digits doesn't overflow.
+// Bytes in hex digits. They are at most 2,048 bytes, as a packet is, so the number of digits doesn't overflow.
 #[derive(Drop)]
 struct HexDigits<'a> {
     bytes: &'a [u8],

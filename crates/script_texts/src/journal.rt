@@ -14,7 +14,7 @@ pub struct Entry {
     pub reply: Blob,
 }
 
-/// Calls in order. In contracts a `Calls` is their list.
+/// Calls in order. Contracts see a `Calls` as the list of its calls.
 #[derive(Debug, Drop)]
 pub struct Calls {
     calls: Vec<Call>,
@@ -30,14 +30,14 @@ impl Model for Calls {
 }
 
 impl Calls {
-    /// Makes the list of these calls.
+    /// Returns the list of these calls.
     pub fn of(calls: Vec<Call>) -> Calls
         ensures { result ≡ calls.items }
     {
         Calls { calls }
     }
 
-    /// The calls, in order.
+    /// Returns the calls, in order.
     pub fn calls(&self) -> &[Call]
         ensures { result.now ≡ self.now }
     {
@@ -49,7 +49,7 @@ impl Calls {
 #[derive(Debug, Drop)]
 pub struct Actors {
     pub opening: Calls,
-    /// The calls of each actor: those of actor 1 come first.
+    /// The calls of each actor; index 0 is actor 1.
     pub actors: [Calls; 8],
     pub closing: Calls,
 }
@@ -70,14 +70,14 @@ impl Model for Journal {
 }
 
 impl Journal {
-    /// Makes the journal with these entries.
+    /// Returns the journal with these entries.
     pub fn of(entries: Vec<Entry>) -> Journal
         ensures { result ≡ entries.items }
     {
         Journal { entries }
     }
 
-    /// The entries, in order.
+    /// Returns the entries, in order.
     pub fn entries(&self) -> &[Entry]
         ensures { result.now ≡ self.now }
     {

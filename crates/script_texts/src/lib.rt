@@ -1,5 +1,5 @@
-//! The texts that scripts and commands write: lines of calls, replies, journals, complaints, ends of sessions, and faults (the line or
-//! record that is outside the grammar).
+//! The texts that scripts and commands write: lines of calls, replies, journals, complaints, the
+//! end of each session, and faults. A fault names the line or record that is outside the grammar.
 #![tactic(auto)]
 
 mod byte_ranges;

@@ -1,4 +1,4 @@
-// The text for a packet that completes a frame that has an element that isn't an OBU.
+// The text for a packet that completes a frame in which an element isn't an OBU.
 ghost use Rattle.std.specs.Prelude.{◌≡◌, ◌++◌, OnErr, OnOk};
 ghost use Rattle.script_texts.specs.Replies.{obu_text};
 ghost use Rattle.script_texts.specs.Texts.{GoesOn};

@@ -22,7 +22,7 @@ pub enum Piece<'a> {
 // The greatest number of words in the line of a call.
 const MOST_PIECES: usize = 7;
 
-/// Up to seven words. In contracts a `Pieces` is their list.
+/// Up to seven words. Contracts see a `Pieces` as the list of its words.
 #[derive(Debug, Drop)]
 pub struct Pieces<'a> {
     items: [Piece<'a>; MOST_PIECES],
@@ -42,7 +42,7 @@ impl<'a> Model for Pieces<'a> {
 }
 
 impl<'a> Pieces<'a> {
-    /// Makes the list of these words.
+    /// Returns the list of these words.
     pub fn of(words: &[Piece<'a>]) -> Pieces<'a>
         requires { length words.now ≤ MOST_PIECES }
         ensures { result ≡ words.now }
@@ -53,7 +53,7 @@ impl<'a> Pieces<'a> {
         Pieces { items, count }
     }
 
-    /// The words, in order.
+    /// Returns the words, in order.
     pub fn words(&self) -> &[Piece<'a>]
         ensures { result.now ≡ self.now }
     {

@@ -23,7 +23,7 @@ fn fault_text(fault: RtpFault) -> &'static [u8]
     }
 }
 
-// The word `refused`, followed by this word.
+// Returns the word `refused`, followed by this word.
 fn refused_as<'a>(word: &'a [u8]) -> Pieces<'a>
     ensures text { pieces_text result ≡ text_of (refused (Word word.now ∷ [])) }
     ensures size { pieces_size result ≡ 9 + length word.now }
@@ -38,7 +38,7 @@ fn refused_with<'a>(word: &'a [u8], what: Piece<'a>) -> Pieces<'a>
     Pieces::of(&[Text(b"refused"), Text(word), what])
 }
 
-/// The words for a refusal and its reason.
+/// Returns the words for a refusal and its reason.
 pub fn refusal_pieces(why: &Refusal) -> Pieces<'static>
     ensures text { pieces_text result ≡ text_of (refusal_places why.now) }
     ensures within { AllWithin (refusal_places why.now) }

@@ -38,7 +38,7 @@ fn append_names(numbers: &[u16], out: &mut Blob) -> Result<(), NoMemory>
     Ok(())
 }
 
-// Out of line, like the next function: the most frequent replies then need no stack space for words.
+// Out of line, as is the next function: the most frequent replies then need no stack space for words.
 #[inline(never)]
 fn append_cause(verdict: &Verdict, out: &mut Blob) -> Result<(), NoMemory>
     ensures ok { OnOk result (out.new ≡ out.old ++ answer_text (Told verdict.now)) }
@@ -73,7 +73,7 @@ fn append_reply(reply: &Reply, scratch: &Scratch, out: &mut Blob) -> Result<(), 
     }
 }
 
-/// Appends the text of a reply, without a line end. Its bytes and numbers are in `scratch`. On `NoMemory`, `out` is unchanged.
+/// Appends the text of a reply, without a line end. `scratch` has the reply's bytes and numbers. On `NoMemory`, `out` is unchanged.
 pub fn write_reply(reply: &Reply, scratch: &Scratch, out: &mut Blob) -> Result<(), NoMemory>
     ensures ok { OnOk result (out.new ≡ out.old ++ answer_text (answer_of reply.now scratch.now.packet scratch.now.names)) }
     ensures says { OnOk result (HasText (answer_of reply.now scratch.now.packet scratch.now.names)) }

@@ -58,7 +58,7 @@ fn put_pieces(pieces: &[Piece], out: &mut PacketBuf)
     }
 }
 
-/// Replaces the bytes of `out` with the text of a reply other than a packet or numbers, without a line end. Takes no memory.
+/// Replaces the bytes of `out` with the text of a reply that is neither a packet nor numbers, without a line end. Allocates no memory.
 pub fn write_short(reply: &Reply, out: &mut PacketBuf)
     requires { IsShort reply.now }
     ensures text { (bytes numbers : List ℕ) → out.new ≡ answer_text (answer_of reply.now bytes numbers) }

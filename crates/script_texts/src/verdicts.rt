@@ -9,7 +9,7 @@ use crate::pieces::Piece::{self, Number, Text};
 use crate::pieces::Pieces;
 use sfu_base::Verdict;
 
-/// The number in decimal digits, or the word `none`.
+/// Returns the number in decimal digits, or the word `none`.
 pub fn number_or_none(number: Option<u64>) -> Piece<'static>
     ensures word { piece_word result ≡ word_of (or_none 64 number) }
     ensures within { IsWithin (or_none 64 number) }
@@ -32,7 +32,7 @@ fn target_or_none(target: Option<u8>) -> Piece<'static>
     }
 }
 
-/// The words of a verdict.
+/// Returns the words of a verdict.
 pub fn verdict_pieces(verdict: &Verdict) -> Pieces<'static>
     ensures text { pieces_text result ≡ text_of (verdict_places verdict.now) }
     ensures within { AllWithin (verdict_places verdict.now) }

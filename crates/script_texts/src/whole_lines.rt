@@ -1,4 +1,4 @@
-// Texts with line ends, appended to the texts that are ready.
+// Texts with line ends, appended to the output that is ready to be written.
 ghost use Rattle.std.specs.Prelude.{◌≡◌, ◌++◌, ◌∷◌, [], OnOk, OnErr, take};
 ghost use Rattle.sfu_base.specs.Answer.{answer_of, is_starved};
 ghost use Rattle.script_texts.specs.Replies.{answer_text};
@@ -8,14 +8,14 @@ use crate::hex_text::append_line;
 use crate::{write_line_fault, write_record_fault, write_reply};
 use sfu_base::{Blob, NoMemory, Refusal, Reply, Scratch};
 
-/// Whether a reply says that memory ran out. A command ends there, and writes no line for this reply.
+/// Returns whether a reply says that memory ran out. In that case a command ends, and writes no line for this reply.
 pub fn wants_memory(reply: &Reply) -> bool
     ensures { result ≡ is_starved reply.now }
 {
     matches!(reply, Reply::Refused(Refusal::NoMemory))
 }
 
-/// Appends a line end to the text that begins at byte `start`. On `NoMemory` the text is removed.
+/// Appends a line end to the text that begins at byte `start` of `ready`. On `NoMemory` it removes that text.
 pub fn end_line(start: usize, ready: &mut Blob) -> Result<(), NoMemory>
     ensures ok { OnOk result (ready.new ≡ ready.old ++ 10 ∷ []) }
     ensures err { OnErr result (ready.new ≡ take start ready.old) }
@@ -27,7 +27,7 @@ pub fn end_line(start: usize, ready: &mut Blob) -> Result<(), NoMemory>
     Ok(())
 }
 
-/// Appends the line of a reply to the texts that are ready. On `NoMemory` these are unchanged. Inlined, since callers mostly name the reply.
+/// Appends the line of a reply to `ready`. On `NoMemory`, `ready` is unchanged. Inlined, since most callers know the kind of reply.
 #[inline(always)]
 pub fn add_reply(reply: &Reply, scratch: &Scratch, ready: &mut Blob) -> Result<(), NoMemory>
     ensures ok { OnOk result (ready.new ≡ ready.old ++ (answer_text (answer_of reply.now scratch.now.packet scratch.now.names) ++ 10 ∷ [])) }
@@ -41,7 +41,7 @@ pub fn add_reply(reply: &Reply, scratch: &Scratch, ready: &mut Blob) -> Result<(
     }
 }
 
-// The same as `add_reply`, for a reply of any kind.
+// Does the same as `add_reply`, for a reply of any kind.
 #[inline(never)]
 fn add_other_reply(reply: &Reply, scratch: &Scratch, ready: &mut Blob) -> Result<(), NoMemory>
     ensures ok { OnOk result (ready.new ≡ ready.old ++ (answer_text (answer_of reply.now scratch.now.packet scratch.now.names) ++ 10 ∷ [])) }
@@ -52,8 +52,8 @@ fn add_other_reply(reply: &Reply, scratch: &Scratch, ready: &mut Blob) -> Result
     end_line(start, ready)
 }
 
-/// Appends the line `line N` to the texts that are ready: line N of the input, with N = `number`, is outside the grammar. On `NoMemory`
-/// these are unchanged.
+/// Appends to `ready` the line `line N` for N = `number`, which says that line
+/// N of the input is outside the grammar. On `NoMemory`, `ready` is unchanged.
 pub fn add_fault(number: u64, ready: &mut Blob) -> Result<(), NoMemory>
     ensures ok { OnOk result (ready.new ≡ ready.old ++ fault_line number) }
     ensures err { OnErr result (ready.new ≡ ready.old) }
@@ -63,8 +63,8 @@ pub fn add_fault(number: u64, ready: &mut Blob) -> Result<(), NoMemory>
     end_line(start, ready)
 }
 
-/// Appends the line `record N` to the texts that are ready: record N of the input, with N = `number`, is outside the grammar. On
-/// `NoMemory` these are unchanged.
+/// Appends to `ready` the line `record N` for N = `number`, which says that record
+/// N of the input is outside the grammar. On `NoMemory`, `ready` is unchanged.
 pub fn add_record_fault(number: u64, ready: &mut Blob) -> Result<(), NoMemory>
     ensures ok { OnOk result (ready.new ≡ ready.old ++ record_fault_line number) }
     ensures err { OnErr result (ready.new ≡ ready.old) }

@@ -11,7 +11,7 @@ use crate::pieces::append_pieces;
 use crate::undo::whole_or_nothing;
 use sfu_base::{Blob, Call, Kind, NoMemory, PacketBuf, Wish};
 
-// Appends a command's word, a space, and the number of a track or a subscriber.
+// Appends a command's word, a space, and the number of a track or subscriber.
 fn append_numbered(word: &[u8], number: u32, out: &mut Blob) -> Result<(), NoMemory>
     ensures ok { OnOk result (out.new ≡ out.old ++ text_of (Word word.now ∷ Number 32 number ∷ [])) }
     ensures begun { GoesOn out.old out.new }
@@ -19,7 +19,7 @@ fn append_numbered(word: &[u8], number: u32, out: &mut Blob) -> Result<(), NoMem
     append_pieces(&[Text(word), Number(u64::from(number))], out)
 }
 
-// Appends a command's word and two numbers, with spaces between.
+// Appends a command's word and two numbers, with one space between them.
 fn append_numbers(word: &[u8], number: u32, second: u64, out: &mut Blob) -> Result<(), NoMemory>
     ensures ok { OnOk result (out.new ≡ out.old ++ text_of (Word word.now ∷ Number 32 number ∷ Number 64 second ∷ [])) }
     ensures begun { GoesOn out.old out.new }

@@ -1,6 +1,6 @@
 #![tactic(auto)]
-//! Only tests, of `session_steps` and `sfu_serve`: sessions step by step on a room of one thread, a room behind a lock, sessions over links in
-//! memory, and concurrent sessions. They are in a crate of their own because a crate with tests is proved twice.
+//! Tests of `session_steps` and `sfu_serve`: sessions step by step on a room of one thread, a room behind a lock, sessions
+//! over links in memory, and concurrent sessions. The tests aren't in those crates, since a crate with tests is proved twice.
 
 #[cfg(test)]
 mod rtx_tests;

@@ -51,14 +51,14 @@ const RESENT: [[u8; 16]; 3] = [
     ],
 ];
 
-// Two packets are taken, and both are requested again. Then one NACK has the wrong SSRC, and one names a packet that was never sent: neither uses
-// a sequence number. Each send fails in turn.
+// Two packets are taken, and retransmissions of both are requested. Then one NACK has the wrong SSRC, and
+// one names a packet that was never sent: neither uses up a sequence number. Each send fails in turn.
 #[test]
 fn resent_packets_have_numbers_of_their_own(rt: HostRuntime) -> Result<(), Fail> {
     let [first, second] = &TAKEN;
     let [once, twice, again] = &RESENT;
     let all: [&[u8]; 5] = [first, second, once, twice, again];
-    // The indices of failing sends, the end, and the number of datagrams sent.
+    // Each case has the indices of failing sends, the end, and the number of datagrams sent.
     let cases: [(&[u64], SessionEnd, usize); 6] = [
         (&[], SessionEnd::AllTurns, 5),
         (&[0], SessionEnd::LinkFault { turn: 0 }, 0),

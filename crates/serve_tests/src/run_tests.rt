@@ -7,8 +7,8 @@ use sfu_base::{CalmLink, Clock, StepClock};
 use sfu_serve::{Job, Role, SessionEnd, run_sessions};
 use std::test::Fail;
 
-// A controller and a publisher at the same time. In every order of turns, the controller's call is refused. The publisher's second packet
-// comes too early, so it is asked for the packet between. Each link fails in turn.
+// A controller and a publisher at the same time. In every order of turns, the controller's call is refused. The
+// publisher's second packet leaves a gap, so the publisher is asked for the packet between. Each link fails in turn.
 #[test]
 fn a_controller_and_a_publisher_have_sessions_at_once(rt: HostRuntime) -> Result<(), Fail> {
     let (all, lost) = (SessionEnd::AllTurns, SessionEnd::LinkFault { turn: 1 });

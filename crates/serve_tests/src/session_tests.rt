@@ -14,7 +14,7 @@ pub const SSRC: u32 = 0x1111_1111;
 
 pub const OUT_SSRC: u32 = 0x2222_2222;
 
-/// The lock of a room on which these calls were made, and the lock's first seat.
+/// Returns the lock of a room on which these calls were made, and the lock's first seat.
 pub fn room_after<W: Wait + Sync>(
     rt: &W,
     alloc: Global,
@@ -32,7 +32,7 @@ pub fn room_after<W: Wait + Sync>(
     Ok((turns, seat))
 }
 
-/// A link that receives these datagrams. The receives and sends with these indices, from 0, fail.
+/// Returns a link that receives these datagrams. The receives and sends with these indices, counted from 0, fail.
 pub fn link(
     alloc: Global,
     datagrams: &[&[u8]],
@@ -71,7 +71,7 @@ pub fn outgoing(number: u16) -> [u8; 14] {
     ]
 }
 
-/// Whether exactly these datagrams were sent.
+/// Returns whether exactly these datagrams were sent.
 pub fn has_sent(link: &MemLink, wanted: &[&[u8]]) -> bool {
     if link.sent().len() != wanted.len() {
         return false;
@@ -95,7 +95,7 @@ pub const PLI: [u8; 12] = [0x81, 0xce, 0, 2, 0, 0, 0, 1, 0x11, 0x11, 0x11, 0x11]
 // Each receive and each send of a publisher's link fails in turn.
 #[test]
 fn a_publisher_is_asked_for_what_is_missing(rt: HostRuntime) -> Result<(), Fail> {
-    // The indices of failing receives and sends, the end, and the number of NACKs sent.
+    // Each case has the indices of failing receives and sends, the end, and the number of NACKs sent.
     let cases: [(&[u64], &[u64], SessionEnd, usize); 4] = [
         (&[], &[], SessionEnd::AllTurns, 1),
         (&[0], &[], SessionEnd::LinkFault { turn: 0 }, 0),
@@ -135,7 +135,7 @@ fn a_publisher_is_asked_for_what_is_missing(rt: HostRuntime) -> Result<(), Fail>
 // Each receive and each send of a subscriber's link fails in turn.
 #[test]
 fn a_subscriber_is_sent_what_waits_for_it(rt: HostRuntime) -> Result<(), Fail> {
-    // How many turns; the indices of failing receives and sends; the end, and the numbers sent.
+    // Each case has the number of turns, the indices of failing receives and sends, the end, and the sequence numbers sent.
     let cases: [(u64, &[u64], &[u64], SessionEnd, &[u16]); 5] = [
         (1, &[], &[], SessionEnd::AllTurns, &[0, 1]),
         (1, &[0], &[], SessionEnd::LinkFault { turn: 0 }, &[]),
@@ -172,10 +172,10 @@ fn a_subscriber_is_sent_what_waits_for_it(rt: HostRuntime) -> Result<(), Fail> {
     Ok(())
 }
 
-// Each receive and the send of a controller's link fails in turn.
+// Each receive and the only send of a controller's link fail in turn.
 #[test]
 fn a_controllers_link_fails(rt: HostRuntime) -> Result<(), Fail> {
-    // The indices of failing receives and sends, the end, and the number of answers sent.
+    // Each case has the indices of failing receives and sends, the end, and the number of replies sent.
     let cases: [(&[u64], &[u64], SessionEnd, usize); 4] = [
         (&[], &[], SessionEnd::AllTurns, 1),
         (&[0], &[], SessionEnd::LinkFault { turn: 0 }, 0),
@@ -225,8 +225,8 @@ impl<'a> Link for MovingLink<'a> {
     }
 }
 
-// The clock is read after each receive. So the two turns are 20 milliseconds apart, and the second turn sends a NACK. If the clock were
-// read before each receive, they would be 10 apart.
+// The clock is read after each receive. So the two turns are 20 milliseconds apart, and the second turn
+// sends a NACK. If the clock were read before each receive, the turns would be 10 milliseconds apart.
 #[test]
 fn the_clock_is_looked_at_behind_the_receive(rt: HostRuntime) -> Result<(), Fail> {
     let (turns, mut seat) = room_after(&rt, rt.alloc(), &[publish()])?;

@@ -16,7 +16,7 @@ const SSRC: u32 = 0x1111_1111;
 
 const PACKETS: u16 = 500;
 
-// A room on which no call was made yet.
+// Returns a room on which no call was made yet.
 pub(crate) fn empty_room(alloc: Global) -> Shared
     ensures { ⟦<SharedRoom<KeepNone> as Held>⟧.stands result [] }
 {
@@ -41,7 +41,7 @@ pub(crate) fn publish() -> Call {
     }
 }
 
-// The packets sent to subscriber 1 are numbered from 0 on.
+// The packets sent to subscriber 1 are numbered from 0.
 pub(crate) fn join() -> Call {
     Call::Join {
         subscriber: 1,
@@ -99,7 +99,7 @@ fn a_packet_of_one_seat_is_taken_by_another(rt: HostRuntime) -> Result<(), Fail>
     Ok(())
 }
 
-// Brings all packets to the track, in order. Returns whether each was accepted.
+// Feeds all packets to the track, in order. Returns whether each was accepted.
 fn bring<W: Wait + Sync>(rt: &W, turns: &Turns<Shared>, mut seat: Seat<Shared>) -> bool
     requires { seat.lock ≡ turns.now }
 {
@@ -115,8 +115,8 @@ fn bring<W: Wait + Sync>(rt: &W, turns: &Turns<Shared>, mut seat: Seat<Shared>) 
     true
 }
 
-// Makes `PACKETS` takes. Each packet must have the next sequence number, from `first` on. Returns the number after the last packet. `None`: a
-// turn failed, a take was refused for another reason than `Empty`, or a packet had another number.
+// Makes `PACKETS` takes. Each packet must have the next sequence number, from `first` on. Returns the number after the last
+// packet. Returns `None` if a turn failed, a take was refused for another reason than `Empty`, or a packet had another number.
 fn take_in_order<W: Wait + Sync>(
     rt: &W,
     turns: &Turns<Shared>,

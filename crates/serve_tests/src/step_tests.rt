@@ -1,4 +1,4 @@
-//! Sessions step by step, on a room of one thread: the loop of a server with a room and sockets of its own. Nothing here locks or waits.
+//! Sessions step by step, on a room of one thread, as in the loop of a server with its own room and sockets. Nothing here locks or waits.
 ghost use Rattle.std.specs.Prelude.{ℕ, List, OnOk};
 ghost use Rattle.room_core.specs.History.{Entry};
 ghost use Rattle.room_core.specs.Serves.{Stands};
@@ -13,7 +13,7 @@ use sfu_base::{Call, Kind, PacketBuf, Wish};
 use std::alloc::{AllocError, Global};
 use std::test::Fail;
 
-// A socket's receive. It returns this datagram or, if that has no bytes or too many, nothing.
+// A socket's receive. It returns this datagram. If the datagram has no bytes or too many, it returns nothing.
 fn receive(datagram: &[u8], into: &mut PacketBuf) -> bool {
     if datagram.is_empty() {
         return false;
@@ -25,7 +25,7 @@ fn receive(datagram: &[u8], into: &mut PacketBuf) -> bool {
     true
 }
 
-// Appends the datagram to send, if there is one, to `sent`.
+// Appends the datagram that is to be sent, if there is one, to `sent`.
 fn send(sent: &mut Vec<PacketBuf>, output: Output, packet: &PacketBuf) -> Result<(), AllocError> {
     if output == Output::Packet {
         let mut datagram = PacketBuf::new();
@@ -35,7 +35,7 @@ fn send(sent: &mut Vec<PacketBuf>, output: Output, packet: &PacketBuf) -> Result
     Ok(())
 }
 
-// A server's loop: runs a session on a room, one turn for each receive and its moment. Appends what the session sends to `sent`.
+// A server's loop: runs a session on a room, with one turn for each receive and its moment. Appends what the session sends to `sent`.
 fn serve_alone<R: Recorder, S: Session>(
     room: &mut Room<R>,
     session: &mut S,
@@ -60,7 +60,7 @@ fn serve_alone<R: Recorder, S: Session>(
     Ok(())
 }
 
-// A room on which these calls were made.
+// Returns a room on which these calls were made.
 fn room_of(alloc: Global, calls: &[Call]) -> Room<KeepNone>
     ensures { (history : List Entry) × Stands ⟦<KeepNone as Recorder>⟧.noted result history }
 {
@@ -72,7 +72,7 @@ fn room_of(alloc: Global, calls: &[Call]) -> Room<KeepNone>
     room
 }
 
-// Whether a session sends exactly the datagrams `wanted`, on a room on which `calls` were made.
+// Returns whether a session sends exactly the datagrams `wanted`, on a room on which `calls` were made.
 fn sends<S: Session>(
     alloc: Global,
     calls: &[Call],
@@ -105,7 +105,7 @@ const THIRD: [u8; 14] = [
     0x80, 0x60, 0x03, 0xea, 0, 0, 0, 0, 0x11, 0x11, 0x11, 0x11, 0xaa, 0xbb,
 ];
 
-// Missing packets are requested in the first turn and then at least 20 milliseconds apart.
+// Missing packets are requested in the first turn, and then at intervals of at least 20 milliseconds.
 #[test]
 fn a_publisher_is_asked_for_what_is_missing_step_by_step(rt: HostRuntime) -> Result<(), Fail> {
     let cases: [(&[(u64, &[u8])], &[&[u8]]); 4] = [
@@ -115,7 +115,7 @@ fn a_publisher_is_asked_for_what_is_missing_step_by_step(rt: HostRuntime) -> Res
             &[(0, &FIRST), (20, &THIRD), (39, &[]), (40, &[])],
             &[&NACK, &NACK],
         ),
-        // RTCP isn't brought to the track
+        // RTCP isn't fed to the track
         (&[(0, &FIRST), (20, &PLI)], &[]),
     ];
     for (receives, wanted) in cases {
@@ -126,7 +126,7 @@ fn a_publisher_is_asked_for_what_is_missing_step_by_step(rt: HostRuntime) -> Res
     Ok(())
 }
 
-// Before any packet of a layered track, its publisher is asked for a key frame at least 500 milliseconds apart.
+// Before the first packet of a layered track, its publisher is asked for a key frame at intervals of at least 500 milliseconds.
 #[test]
 fn a_publisher_is_asked_for_a_key_frame(rt: HostRuntime) -> Result<(), Fail> {
     let cases: [(&[(u64, &[u8])], &[&[u8]]); 4] = [
@@ -243,7 +243,7 @@ const GOES: [&[u8]; 2] = [
     b"\x90\xe0\0\0\0\0\0\0\x22\x22\x22\x22\xbe\xde\0\x01\x42\xc1\0\x02\x10\x30\0",
 ];
 
-// A subscriber's session sends what a publisher's session brought to the room.
+// A subscriber's session sends what a publisher's session has fed to the room.
 #[test]
 fn a_subscriber_of_a_layered_track_is_sent_its_frames(rt: HostRuntime) -> Result<(), Fail> {
     let calls = [

@@ -1,4 +1,4 @@
--- How a deed continues after a call's reply, and by what is due.
+-- The rest of a deed after a call's reply, and by what is due.
 use Rattle.std.proofs.Common.{◌≡◌, ◌≢◌, ℕ, ◌+◌, ◌%◌, Bool, true, if◌then◌else◌, ◌&&◌, List, [], ◌∷◌, length, Option, refl, ap}
 use Rattle.std.specs.Prelude.{Some}
 use Rattle.sfu_base.specs.Answer.{Named, KeyIs, answer_of}
@@ -18,7 +18,7 @@ pub resends_packet : (way : Option Rtx) (number : ℕ) (given : Reply) (bytes nu
     → resends way number (answer_of given bytes numbers) next ≡ Post (resent way number bytes) (next ((number + 1) % 65536))
 resends_packet way number given bytes numbers next is = ap (λ (r : Reply). resends way number (answer_of r bytes numbers) next) is
 
--- ---- names
+-- ---- missing numbers
 
 pub nacks_some : (ssrc : ℕ) (names : List ℕ) (next : Doing) → length names ≢ 0 → nacks ssrc (Named names) next ≡ Post (NackFor ssrc names) next
 nacks_some ssrc [] next some = absurd (some refl)

@@ -16,7 +16,7 @@ pub waits : (turns : ℕ) → Waits (control_deed turns) turns
 waits zero = tt
 waits (suc turns) = tt
 
--- a datagram that isn't a line is answered
+-- the reply to a datagram that isn't a line
 pub faults : (said read : Option Call) (turns : ℕ) (came : Bool) (bytes out : List ℕ) (moment : ℕ) → Waits (controlling said 0) 0 → came ≡ true → read ≡ control_call bytes → is_some read ≡ false → out ≡ codes "fault line"
     → GoesOn (heard (controlling said (suc turns)) (datagram came bytes) moment) (controlling read turns) out Packet
 faults None None turns true bytes out moment waits did has none is = (fault_line, ap (λ (o : Option Call). answers o (control_deed turns)) (sym has), is)
@@ -28,7 +28,7 @@ only_control : (b : Bool) (said other : Call) → is_control said ≡ b → cond
 only_control true said other e is = let same : said ≡ other = cc is in ap is_control (sym same) ∙ e
 only_control false said other e is = absurd (cc is)
 
--- a call that is read from a control line is one
+-- a call that is read from a control line is a control call
 pub controls_only : (o : Option Call) (said : Call) → if_control o ≡ Some said → is_control said ≡ true
 controls_only None said is = absurd (cc is)
 controls_only (Some other) said is = only_control (is_control other) other said refl is

@@ -32,7 +32,7 @@ heard_items : (s : session.SubscriberSession) (came : Bool) (bytes : List ℕ) (
 heard_items s true bytes next = refl
 heard_items s false bytes next = refl
 
--- what came is served
+-- the received feedback is served
 pub hears : (s : session.SubscriberSession) (turns moment : ℕ) (came : Bool) (bytes : List ℕ) (items : List Feedback) → s.next ≡ Datagram → items ≡ (if came then feedback_in bytes else [])
     → heard (subscribing_at s.next s (suc turns)) (datagram came bytes) moment ≡ serves s.subscriber s.ssrc s.rtx items s.number (then_takes s turns)
 hears s turns moment came bytes items is are =
@@ -53,7 +53,7 @@ sendable s given bytes names is replied gave =
     let r = subst (λ (n : Next). IsReplyIn (subscribing_at n s 0) given bytes names) is replied in
     r.sendable gave
 
--- the rest in other words
+-- the rest in an equal form
 pub rest_as : (d rest other : Doing) (bytes : List ℕ) (output : Output) → rest ≡ other → GoesOn d rest bytes output → GoesOn d other bytes output
 rest_as d rest other bytes output same goes = subst (λ (r : Doing). GoesOn d r bytes output) same goes
 

@@ -1,4 +1,4 @@
--- What a publisher's session has left to do.
+-- What remains to be done in a publisher's session.
 use Rattle.std.specs.Prelude.{ℕ, Some}
 use Rattle.sfu_base.specs.declared.call.Call.TheVariants as call
 use Rattle.session_steps.specs.Deeds.{Ask}
@@ -7,7 +7,7 @@ use Rattle.session_steps.specs.declared.publisher.Next.TheVariants.{Datagram, Pa
 use Rattle.session_steps.specs.declared.publisher.PublisherSession as session
 use Rattle.session_steps.specs.Sessions.{Doing, asks, nacks, pleads, publisher_deed}
 
--- from its call about a key frame on, from its call about missing packets on, from its tick on
+-- What remains of a turn from one of its calls on, and the turns after it: from the call about a key frame, about missing packets, or from the tick.
 abbrev pub from_key : session.PublisherSession → ℕ → Doing
 from_key p turns =
     Ask (call.KeyWanted p.track) (λ key. pleads p.ssrc p.moment p.pleaded key (publisher_deed p.track p.ssrc turns (Some p.moment)))

@@ -1,4 +1,4 @@
--- How one step changes what is left of a session: by what a receive or a reply brought. Own rule.
+-- The effect of one step on what remains of a session, by the result of a receive or by a reply. Own rule.
 use Rattle.std.specs.Prelude.{◌≡◌, ◌<◌, ◌≤◌, ℕ, zero, suc, true, List, length, Option, None}
 use Rattle.sfu_base.specs.Answer.{Answer}
 use Rattle.sfu_base.specs.declared.call.Call.{Call}
@@ -14,7 +14,7 @@ use Rattle.session_steps.specs.declared.session.Output.TheVariants.{Nothing, Pac
 use Rattle.session_steps.specs.Datagrams.{Datagram, IsOne, is_control}
 use Rattle.session_steps.specs.Sessions.{Doing}
 
--- No call is left in this turn: the session waits for a datagram or, if no turn is left, is over.
+-- No call remains in this turn: the session waits for a datagram or, if no turn remains, is over.
 abbrev pub Waits : Doing → ℕ → Type 0
 Waits Over zero = Unit {0}
 Waits (Listen f) (suc turns) = Unit {0}
@@ -25,16 +25,16 @@ abbrev pub Asks : Doing → Call → Type 0
 Asks (Ask call f) next = next ≡ call
 Asks d next = ⊥
 
--- A packet that can be wrapped as a retransmission: it reads as RTP (RFC 3550, section 5.1), and two bytes more fit in a buffer.
+-- A packet that can be wrapped as a retransmission: it is valid RTP (RFC 3550, section 5.1), and two bytes more fit in a buffer.
 pub record CanBeWrapped (bytes : List ℕ) : Type 0 where
   pub reads : first_fault bytes ≡ None
   pub fits : length bytes ≤ 2046
 
--- What a session relies on in the reply to its call, with the content of the scratch. A room replies so after any history.
+-- The facts that a session needs about the reply to its call, with the content of the scratch. They hold for a room's reply after any history.
 pub record IsReplyTo (call : Call) (given : Reply) (bytes names : List ℕ) : Type 0 where
   -- a packet can be wrapped
   pub sendable : given ≡ reply.Packet → CanBeWrapped bytes
-  -- one NACK can name the missing packets
+  -- the missing packets fit into one NACK
   pub rises : (track : ℕ) → call ≡ Missing track → given ≡ reply.Names → 0 < length names → Rise 1023 names
   -- the reply to a control line's call is a text
   pub text : is_control call ≡ true → IsShort given
@@ -44,17 +44,17 @@ abbrev pub IsReplyIn : Doing → Reply → List ℕ → List ℕ → Type 0
 IsReplyIn (Ask call f) given bytes names = IsReplyTo call given bytes names
 IsReplyIn d given bytes names = ⊥
 
--- what is left after a receive brought this at this moment
+-- what remains after a receive that returned this datagram, or none, at this moment
 abbrev pub heard : Doing → Option (List ℕ) → ℕ → Doing
 heard (Listen f) got moment = f got moment
 heard d got moment = d
 
--- what is left after this answer to the call
+-- what remains after this answer to the call
 abbrev pub answered : Doing → Answer → Doing
 answered (Ask call f) answer = f answer
 answered d answer = d
 
--- Of what is left, the rest comes next: at once, or after these bytes were sent as the datagram that comes first.
+-- `rest` follows, either at once or after the first datagram was sent as these bytes.
 abbrev pub GoesOn : Doing → Doing → List ℕ → Output → Type 0
 GoesOn d rest bytes Nothing = d ≡ rest
 GoesOn d rest bytes Packet = (what : Datagram) × (d ≡ Post what rest) × IsOne what bytes

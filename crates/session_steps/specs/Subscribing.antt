@@ -1,4 +1,4 @@
--- What a subscriber's session has left to do.
+-- What remains to be done in a subscriber's session.
 use Rattle.std.specs.Prelude.{ℕ, suc, ◌+◌, length}
 use Rattle.session_steps.specs.Deeds.{Ask}
 use Rattle.session_steps.specs.declared.subscriber.Next.{Next}

@@ -10,8 +10,8 @@ use sfu_script::{read_call, write_short};
 /// The reply to a datagram that isn't a control line.
 const FAULT_LINE: &[u8] = b"fault line";
 
-/// The session of a controller. A datagram that is one line of publish, unpublish, join, leave, aim, key, plead or why, without a line end, is a
-/// call. The text of the call's reply is sent, also without a line end. The reply to any other datagram is `fault line`.
+/// The session of a controller. A datagram is a call if it is one line of publish, unpublish, join, leave, aim, key, plead or why, without
+/// a line end. The session sends the text of the call's reply, also without a line end. The reply to any other datagram is `fault line`.
 #[derive(Debug, Drop)]
 pub struct ControlSession {
     /// The call of the last line, until its reply is sent.
@@ -19,7 +19,7 @@ pub struct ControlSession {
     ghost control: { if_control said ≡ said },
 }
 
-/// Whether a control line may have this call.
+/// Returns whether a control line may contain this call.
 fn is_control(call: &Call) -> bool
     ensures { result ≡ is_control call.now }
 {
@@ -33,7 +33,7 @@ fn is_control(call: &Call) -> bool
     }
 }
 
-/// Reads a control line as a call. `None`: the datagram isn't a control line.
+/// Reads a control line as a call. Returns `None` if the datagram isn't a control line.
 fn read_control(line: &[u8]) -> Option<Call>
     ensures { result ≡ control_call line.now }
 {
@@ -47,7 +47,7 @@ impl ControlSession {
     ghost use Rattle.session_steps.specs.Controlling.{controlling};
     ghost use Rattle.session_steps.specs.Stepping.{Waits};
 
-    /// The session of a controller, before its first datagram.
+    /// Returns the session of a controller, before its first datagram.
     pub fn new() -> ControlSession
         ensures left { (turns : ℕ) → controlling result.said turns ≡ control_deed turns }
         ensures waits { (turns : ℕ) → Waits (controlling result.said turns) turns }

@@ -1,8 +1,8 @@
 //! The sessions that publishers, subscribers and controllers have with a room, as state machines without input and output.
 //!
-//! A session has no lock, no socket and no clock. Its caller passes each datagram and its time, makes the calls that the session returns,
-//! and sends the datagrams that the session puts into the scratch. So a server with sockets of its own runs a session in one loop, on a room
-//! that is its own or shared:
+//! A session has no lock, no socket and no clock. Its caller passes in each datagram and its time, makes
+//! the calls that the session returns, and sends the datagrams that the session puts into the scratch.
+//! So a server with its own sockets runs a session in one loop, on a room that it owns or shares:
 //!
 //! ```text
 //! loop {
@@ -21,8 +21,8 @@
 //! }
 //! ```
 //!
-//! By the contract of [`Session`], such a loop makes exactly the calls and sends exactly the datagrams of the session's rule
-//! (`specs/Sessions.antt`), in order.
+//! By the contract of [`Session`], such a loop makes exactly the calls, and sends exactly
+//! the datagrams, that the session's rule (`specs/Sessions.antt`) names, in order.
 #![tactic(auto)]
 
 mod control;

@@ -1,9 +1,9 @@
 // The session of a publisher.
-ghost use Rattle.std.specs.Prelude.{◌≡◌, ◌&&◌, not, ℕ, ◌<◌, List, Option, None, length};
+ghost use Rattle.std.specs.Prelude.{◌≡◌, ◌&&◌, not, ℕ, ◌<◌, Option, None, length};
 ghost use Rattle.sfu_base.specs.Answer.{answer_of};
 ghost use Rattle.sfu_base.specs.declared.call.Call.TheVariants as call;
 ghost use Rattle.rtcp_feedback.specs.Writing.{Rise};
-ghost use Rattle.session_steps.specs.Datagrams.{bytes_in, is_rtcp, moment_in};
+ghost use Rattle.session_steps.specs.Datagrams.{is_rtcp};
 ghost use Rattle.session_steps.specs.Sessions.{Doing, is_due, nacks, pleads, publisher_deed};
 ghost use Rattle.session_steps.specs.Stepping.{GoesOn, Waits};
 
@@ -11,8 +11,9 @@ use crate::rtcp::is_rtcp;
 use crate::session::{Output, Session};
 use rtcp_feedback::{write_nack, write_pli};
 use sfu_base::{Call, PacketBuf, Reply, Scratch};
+use sfu_script::{set_packet, set_tick};
 
-/// The sender's SSRC in the RTCP feedback.
+/// The SSRC of the sender of the RTCP feedback.
 const SENDER: u32 = 1;
 
 /// The least time between two turns that request missing packets, in milliseconds.
@@ -30,23 +31,23 @@ enum Next {
     Packet,
     /// Make the tick at this turn's moment.
     Tick,
-    /// Make the call for the list of missing packets; the call about a key frame follows.
+    /// Make the call for the list of missing packets. The call about a key frame follows it.
     Missing,
     /// Make the call about whether a key frame is wanted.
     KeyWanted,
 }
 
-/// The session of a publisher of one track. In each turn it brings the received RTP packet, if any, to the track, and then ticks the track.
-/// In the first turn, and then at least 20 milliseconds apart, it asks the room which packets are missing and whether a key frame is wanted.
-/// One NACK names all missing packets (RFC 4585, section 6.2.1). For a wanted key frame it sends a picture loss indication (section 6.3.1), at
-/// least 500 milliseconds after the last one.
+/// The session of a publisher of one track. In each turn it adds the received RTP packet, if any, to the track, and then
+/// ticks the track. In the first turn, and then at intervals of at least 20 milliseconds, it asks the room which packets
+/// are missing and whether a key frame is wanted. One NACK names all missing packets (RFC 4585, section 6.2.1). For a
+/// wanted key frame it sends a picture loss indication (section 6.3.1), at least 500 milliseconds after the last one.
 ///
 /// The session reuses its calls from turn to turn: a [`Call`] has a buffer for a packet, which a new call would have to clear.
 #[derive(Debug, Drop)]
 pub struct PublisherSession {
     track: u32,
     ssrc: u32,
-    /// The moment of the last turn with the calls about missing packets and a key frame.
+    /// The moment of the last turn that made the calls about missing packets and a key frame.
     asked: Option<u64>,
     /// The moment of the last picture loss indication sent.
     pleaded: Option<u64>,
@@ -57,13 +58,11 @@ pub struct PublisherSession {
     tick: Call,
     missing: Call,
     key_wanted: Call,
-    ghost packet_is: { packet ≡ call.Packet track (moment_in packet) (bytes_in packet) },
-    ghost tick_is: { tick ≡ call.Tick track (moment_in tick) },
     ghost missing_is: { missing ≡ call.Missing track },
     ghost key_wanted_is: { key_wanted ≡ call.KeyWanted track },
 }
 
-/// Whether `last` is `None`, or `moment` is at least `apart` milliseconds after it.
+/// Returns whether `last` is `None`, or `moment` is at least `apart` milliseconds after `last`.
 fn is_due(apart: u64, moment: u64, last: Option<u64>) -> bool
     ensures { result ≡ is_due apart moment last }
 {
@@ -73,33 +72,14 @@ fn is_due(apart: u64, moment: u64, last: Option<u64>) -> bool
     }
 }
 
-/// Whether an RTP packet was received: a datagram that isn't RTCP.
+/// Returns whether an RTP packet was received: a datagram that isn't RTCP.
 fn is_packet(came: bool, datagram: &PacketBuf) -> bool
     ensures { result ≡ (came && not (is_rtcp datagram.now)) }
 {
     came && !is_rtcp(datagram.bytes())
 }
 
-/// Writes a packet and its moment into the kept call.
-fn set_packet(kept: &mut Call, now: u64, packet: &PacketBuf)
-    ensures { (track before : ℕ) (old : List ℕ) → kept.old ≡ call.Packet track before old → kept.new ≡ call.Packet track now packet.now }
-{
-    if let Call::Packet { moment, bytes, .. } = kept {
-        *moment = now;
-        bytes.fill(packet.bytes());
-    }
-}
-
-/// Writes a moment into the kept tick.
-fn set_moment(kept: &mut Call, now: u64)
-    ensures { (track before : ℕ) → kept.old ≡ call.Tick track before → kept.new ≡ call.Tick track now }
-{
-    if let Call::Tick { moment, .. } = kept {
-        *moment = now;
-    }
-}
-
-/// Writes one NACK for all missing packets in the reply, if there are any.
+/// Writes one NACK for all missing packets that the reply names, if it names any.
 fn nack(ssrc: u32, reply: Reply, scratch: &mut Scratch) -> Output
     requires rise { reply ≡ Reply.Names → 0 < length scratch.old.names → Rise 1023 scratch.old.names }
     ensures { (rest : Doing) → GoesOn (nacks ssrc (answer_of reply scratch.old.packet scratch.old.names) rest) rest scratch.new.packet result }
@@ -114,7 +94,7 @@ fn nack(ssrc: u32, reply: Reply, scratch: &mut Scratch) -> Output
     Output::Packet
 }
 
-/// If a key frame is wanted and a picture loss indication is due, writes one and notes its moment.
+/// If a key frame is wanted and a picture loss indication is due, writes one and records its moment.
 fn plead(
     ssrc: u32,
     moment: u64,
@@ -142,7 +122,7 @@ fn plead(
 impl PublisherSession {
     ghost use Rattle.session_steps.specs.Publishing.{publishing};
 
-    /// The session of the publisher of a track, before its first datagram. `ssrc` is the SSRC of the packets that the publisher sends.
+    /// Returns the session of the publisher of a track, before its first datagram. `ssrc` is the SSRC of the packets that the publisher sends.
     pub fn new(track: u32, ssrc: u32) -> PublisherSession
         ensures left { (turns : ℕ) → publishing result turns ≡ publisher_deed track ssrc turns None None }
         ensures waits { (turns : ℕ) → Waits (publishing result turns) turns }
@@ -185,9 +165,9 @@ impl Session for PublisherSession {
 
     fn received(&mut self, came: bool, moment: u64, scratch: &mut Scratch) -> Output {
         self.moment = moment;
-        set_moment(&mut self.tick, moment);
+        set_tick(&mut self.tick, self.track, moment);
         if is_packet(came, &scratch.packet) {
-            set_packet(&mut self.packet, moment, &scratch.packet);
+            set_packet(&mut self.packet, self.track, moment, scratch.packet.bytes());
             self.next = Next::Packet;
             return Output::Nothing;
         }

@@ -2,7 +2,7 @@
 ghost use Rattle.std.specs.Prelude.{◌≡◌};
 ghost use Rattle.session_steps.specs.Datagrams.{is_rtcp};
 
-/// Whether a datagram is RTCP: its second byte is 192 to 223 (RFC 5761, section 4).
+/// Returns whether a datagram is RTCP: its second byte is 192 to 223 (RFC 5761, section 4).
 pub(crate) fn is_rtcp(bytes: &[u8]) -> bool
     ensures { result ≡ is_rtcp bytes.now }
 {

@@ -15,7 +15,7 @@ use rtcp_feedback::{Feedback, FeedbackQueue};
 use rtx_stream::Rtx;
 use sfu_base::{Call, PacketBuf, Reply, Scratch};
 
-/// The most packets that a turn takes.
+/// The greatest number of packets that a turn takes.
 const MOST_TAKES: u32 = 32;
 
 /// The next step of a subscriber's session.
@@ -25,7 +25,7 @@ enum Next {
     Datagram,
     /// Make the call for an item of feedback.
     Feedback,
-    /// Make a take, with at most `behind` more after it in this turn.
+    /// Make a take. At most `behind` further takes follow in this turn.
     Take { behind: u32 },
 }
 
@@ -39,11 +39,11 @@ enum Next {
 pub struct SubscriberSession {
     subscriber: u32,
     ssrc: u32,
-    /// The retransmission stream. `None`: retransmissions are sent as the packets were first sent.
+    /// The retransmission stream. If it is `None`, a retransmission is the packet as it was first sent.
     rtx: Option<Rtx>,
     /// The sequence number of the next retransmission on that stream.
     number: u16,
-    /// The items of this turn's feedback that remain.
+    /// The items of this turn's feedback that aren't served yet.
     feedback: FeedbackQueue,
     next: Next,
     asked: Call,
@@ -52,7 +52,7 @@ pub struct SubscriberSession {
     ghost payload_type: { IfSome rtx (λ stream. stream.payload_type < 128) } by { Prim.hlevel props },
 }
 
-/// The call for an item of feedback.
+/// Returns the call for an item of feedback.
 fn call_of(subscriber: u32, item: Feedback) -> Call
     ensures { result ≡ call_for subscriber item }
 {
@@ -62,7 +62,7 @@ fn call_of(subscriber: u32, item: Feedback) -> Call
     }
 }
 
-/// The SSRC of an item's media source.
+/// Returns the SSRC of an item's media source.
 fn media(item: Feedback) -> u32
     ensures { result ≡ media_of item }
 {
@@ -72,7 +72,7 @@ fn media(item: Feedback) -> u32
     }
 }
 
-/// Fills the queue with the feedback that was received: no items if nothing came, the datagram isn't RTCP, or the RTCP has a fault.
+/// Fills the queue with the feedback that was received. The queue is empty if no datagram came, the datagram isn't RTCP, or the RTCP has a fault.
 fn read_feedback(feedback: &mut FeedbackQueue, came: bool, datagram: &PacketBuf)
     ensures { feedback.new ≡ (if came then feedback_in datagram.now else []) }
 {
@@ -106,9 +106,9 @@ impl SubscriberSession {
     ghost use Rattle.session_steps.specs.declared.subscriber.SubscriberSession.{SubscriberSession as SubscriberData};
     ghost use Rattle.session_steps.specs.Subscribing.{calls_at, subscribing, subscribing_at, subscribing_calls, then_takes};
 
-    /// The session of a subscriber before its first datagram. `ssrc` is the SSRC of the media sent to the subscriber. Retransmissions are sent
-    /// on the stream `rtx` (RFC 4588), whose payload type is below 128, numbered 0, 1 and so on modulo 65,536. Without `rtx` they are sent as
-    /// the packets were first sent.
+    /// Returns the session of a subscriber, before its first datagram. `ssrc` is the SSRC of the media sent to the
+    /// subscriber. With a stream `rtx` (RFC 4588), retransmissions are sent on this stream, numbered 0, 1 and so on
+    /// modulo 65,536; its payload type is below 128. Without `rtx`, a retransmission is the packet as it was first sent.
     pub fn new(subscriber: u32, ssrc: u32, rtx: Option<Rtx>) -> SubscriberSession
         requires payload_type { IfSome rtx (λ stream. stream.payload_type < 128) }
         ensures left { (turns : ℕ) → subscribing result turns ≡ outgoing_deed subscriber ssrc rtx turns 0 }
@@ -126,7 +126,7 @@ impl SubscriberSession {
         }
     }
 
-    /// The next step if `left` takes remain in this turn.
+    /// Returns the next step if `left` takes remain in this turn.
     fn next_take(left: u32) -> Next
         ensures left { (s : SubscriberData) (turns : ℕ) → subscribing_at result s turns ≡ takes s.subscriber left (outgoing_deed s.subscriber s.ssrc s.rtx turns s.number) }
         ensures calls { (items : ℕ) → calls_at result items ≡ left }
@@ -138,7 +138,7 @@ impl SubscriberSession {
         }
     }
 
-    /// Goes on to the next item of feedback on the subscriber's SSRC or, if none is left, to the takes.
+    /// Goes on to the next item of feedback on the subscriber's SSRC; if none is left, to the takes.
     fn advance(&mut self)
         ensures left { (turns : ℕ) → subscribing self.new turns ≡ serves self.old.subscriber self.old.ssrc self.old.rtx self.old.feedback self.old.number (then_takes self.old turns) }
         ensures fewer { subscribing_calls self.new ≤ length self.old.feedback + 32 }

@@ -1,4 +1,4 @@
--- Steps that the walks of `src/trace.rt` share: a struct that has no bytes, and one field of such a struct.
+-- Steps that several walks of `src/trace.rt` use: for a struct without bytes, and for one field of such a struct.
 use Rattle.std.proofs.Common.{List, [], ◌∷◌, refl}
 use seplogic.Ra.Ura.{Ura}
 use mir.Val.{Val, vstruct, vcons, vnil}

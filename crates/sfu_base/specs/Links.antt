@@ -31,7 +31,7 @@ abbrev pub after_send : {T E : Type 0} → Result T E → List ℕ → Option Tr
 after_send (Ok done) bytes told = with_more [] (bytes ∷ []) told
 after_send (Err why) bytes told = told
 
--- a receive leaves its buffer as it was, unless a datagram came
+-- a receive changes its buffer only if a datagram came
 abbrev pub FillsOnlyWhere : {E : Type 0} → Result Bool E → List ℕ → List ℕ → Type 0
 FillsOnlyWhere result before now = MatchResult result (λ came. came ≡ false → now ≡ before) (λ _. now ≡ before)
 
@@ -47,7 +47,7 @@ pub record LinkInMemory : Type 0 where
   pub name : ℕ
   pub faults : ℕ
 
--- a link in memory before its first call, and before ports give it a name
+-- a link in memory before its first call, and before ports set its name
 abbrev pub fresh : List (List ℕ) → List ℕ → List ℕ → LinkInMemory
 fresh prepared failing_receives failing_sends =
     record {
@@ -78,7 +78,7 @@ is_listed place failing = list_any (λ other. other == place) failing
 abbrev pub failed_receive : LinkInMemory → LinkInMemory
 failed_receive link = record link { receives = raised link.receives; faults = raised link.faults }
 
--- after a receive that returned this: it is appended to the traffic, and the first prepared datagram is removed
+-- after a receive that returned this result: the result is appended to the traffic, and the first prepared datagram is removed
 abbrev pub received : LinkInMemory → Option (List ℕ) → LinkInMemory
 received link brought =
     record link {

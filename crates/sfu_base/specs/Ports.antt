@@ -59,7 +59,7 @@ came_back ports port =
       faults = if port.faults == 0 then ports.faults else raised ports.faults;
     }
 
--- at most as many ports came back as were bound, at most 64 are bound, and capacity for 64 is reserved
+-- no more ports came back than were bound, at most 64 are bound, and capacity for 64 is reserved
 pub record HaveRoom (back bound places : ℕ) : Type 0 where
   pub within : back ≤ bound
   pub limited : bound ≤ 64

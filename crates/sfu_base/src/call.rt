@@ -8,24 +8,24 @@ use thiserror::Error;
 pub enum Kind {
     /// Packets that are forwarded in order, with only sequence number and SSRC changed.
     Plain,
-    /// AV1 packets (RTP Payload Format For AV1), each with a dependency descriptor in the header extension element of this id, 1 to 14 or
-    /// 16 to 255 (RFC 8285, section 4).
+    /// AV1 packets (RTP Payload Format For AV1). Each has a dependency descriptor in the header extension element with this `id`, which is 1 to
+    /// 14 or 16 to 255 (RFC 8285, section 4).
     Layered { id: u8 },
 }
 
-/// A call on a room (own rule). The caller numbers the tracks: a new track's number is above 0 and above the numbers of all earlier tracks.
+/// A call on a room (own rule). The caller numbers the tracks: a new track's number is above 0 and above the number of every earlier track.
 /// Subscribers are numbered in the same way, independently of the tracks.
 #[derive(Debug, Drop)]
 pub enum Call {
-    /// A track begins. Its packets have this SSRC. `hold` is the reorder timeout in milliseconds: how long a packet is buffered behind a
-    /// gap in the sequence numbers.
+    /// A track begins. The track's packets have this SSRC. `hold` is the reorder timeout in milliseconds: how long a packet is buffered behind
+    /// a gap in the sequence numbers.
     Publish {
         track: u32,
         kind: Kind,
         ssrc: u32,
         hold: u32,
     },
-    /// A track ends. Its subscribers stay, and the packets that are queued for them can still be taken.
+    /// A track ends. The track's subscribers stay, and the packets that are queued for them can still be taken.
     Unpublish {
         track: u32,
     },
@@ -35,13 +35,14 @@ pub enum Call {
         moment: u64,
         bytes: PacketBuf,
     },
-    /// Time has reached `moment`, in milliseconds. The lowest gaps are given up, while the packet after each was buffered for `hold`.
+    /// The time is `moment`, in milliseconds. If the packet after the lowest gap has been buffered for `hold` or longer, the track gives up
+    /// that gap. The same rule then applies to the next gap, and so on.
     Tick {
         track: u32,
         moment: u64,
     },
-    /// A subscriber joins the track. Packets sent to it have this SSRC, and sequence numbers that begin at `first`. On a layered track
-    /// `wish` limits the layers that it is sent.
+    /// A subscriber joins the track. Packets sent to it have this SSRC, and sequence numbers that begin at `first`. On a layered track, `wish`
+    /// limits the spatial and temporal layers that are sent to it.
     Join {
         subscriber: u32,
         track: u32,
@@ -58,11 +59,11 @@ pub enum Call {
         subscriber: u32,
         wish: Wish,
     },
-    /// Takes the subscriber's oldest queued packet out of the queue.
+    /// Removes the oldest packet from the subscriber's queue and returns it.
     Take {
         subscriber: u32,
     },
-    /// Requests a retransmission of the packet that the subscriber took with this sequence number (RFC 4585, section 6.2.1).
+    /// Requests a retransmission of the packet with this sequence number, which the subscriber took before (RFC 4585, section 6.2.1).
     Resend {
         subscriber: u32,
         seq: u16,
@@ -79,14 +80,14 @@ pub enum Call {
     Plead {
         subscriber: u32,
     },
-    /// Reports why the frame with this unwrapped frame number was or wasn't forwarded to the subscriber.
+    /// Reports whether and why the frame with this unwrapped frame number was forwarded to the subscriber.
     Why {
         subscriber: u32,
         number: u64,
     },
 }
 
-/// Why bytes aren't an RTP packet (RFC 3550, section 5.1). If several faults apply, the first in this order is reported.
+/// The reason why some bytes aren't an RTP packet (RFC 3550, section 5.1). If several reasons apply, the first in the order of this list is reported.
 #[derive(Clone, Copy, Debug, PartialEq, Eq, Error)]
 pub enum RtpFault {
     /// Fewer than 12 bytes.
@@ -95,10 +96,10 @@ pub enum RtpFault {
     /// The version isn't 2.
     #[error("the version isn't 2")]
     Version,
-    /// The bytes end before the CSRC list does.
+    /// The bytes end before the end of the CSRC list.
     #[error("the CSRC words aren't all there")]
     Csrc,
-    /// The bytes end before the header extension does.
+    /// The bytes end before the end of the header extension.
     #[error("the header extension isn't all there")]
     Extension,
     /// The padding count is 0, or more than the number of bytes after the header.
@@ -106,18 +107,19 @@ pub enum RtpFault {
     Padding,
 }
 
-/// Why a call was refused. Own rule. A refused call changes nothing.
+/// The reason why a call was refused (own rule). A refused call changes nothing.
 #[derive(Clone, Copy, Debug, PartialEq, Eq)]
 pub enum Refusal {
     /// No live track has this number, or the subscriber's track ended.
     NoTrack,
     /// No live subscriber has this number.
     NoSubscriber,
-    /// The number is at most `highest`, the highest number of its kind that was ever live, or 0 before the first.
+    /// The number of the new track isn't above `highest`, the highest number of any earlier track, or 0 before the first one. For a new
+    /// subscriber, the same applies to the numbers of subscribers.
     NumberUsed { highest: u32 },
-    /// The limit is reached: `live` tracks, or subscribers, are live already.
+    /// The limit on live tracks, or on live subscribers, is reached. `live` is their number.
     TooMany { live: u32 },
-    /// The header extension id is 0, which is padding, or 15, which ends processing (RFC 8285, section 4.2).
+    /// The header extension id is 0, which stands for padding, or 15, at which processing stops (RFC 8285, section 4.2).
     BadExtensionId,
     /// The packet has `len` bytes, more than 1,500.
     TooBig { len: u32 },
@@ -127,14 +129,14 @@ pub enum Refusal {
     WrongSsrc { got: u32, wanted: u32 },
     /// The packet's unwrapped sequence number is 2^46 or more.
     Spent,
-    /// The packet's unwrapped sequence number is below `next`, the lowest for which the track waits.
+    /// The packet's unwrapped sequence number is below `next`, the lowest number for which the track waits.
     Late { next: u64 },
     /// A packet with this sequence number is buffered already.
     Repeat,
     /// The subscriber's queue is empty.
     Empty,
     /// The packet isn't stored for retransmission. `oldest` is the sequence number of the oldest stored packet, or `next` if there is none.
-    /// `next` is the sequence number of the packet that is taken next.
+    /// `next` is the sequence number that the next taken packet will have.
     NotKept { oldest: u16, next: u16 },
     /// The frame number is above `newest`, the newest frame's number. `None` means that no frame has arrived.
     Ahead { newest: Option<u64> },
@@ -142,28 +144,28 @@ pub enum Refusal {
     TooOld { oldest: u64 },
     /// The subscriber's track is plain.
     Plain,
-    /// Out of memory. This is the only refusal that the earlier calls don't determine.
+    /// Out of memory. All other refusals are determined by this call and the earlier ones.
     NoMemory,
 }
 
-/// The reply to a call. Own rule.
+/// The reply to a call (own rule).
 #[derive(Clone, Copy, Debug, PartialEq, Eq)]
 pub enum Reply {
     /// The call was done.
     Done,
-    /// A packet. Its bytes are in `Scratch::packet`.
+    /// A packet, whose bytes are in `Scratch::packet`.
     Packet,
-    /// Sequence numbers. They are in `Scratch::names`.
+    /// A list of sequence numbers, which is in `Scratch::names`.
     Names,
     /// Whether a key frame should be requested from the publisher.
     Key { wanted: bool },
-    /// Why a frame was or wasn't forwarded.
+    /// Whether and why a frame was forwarded.
     Cause(Verdict),
     /// The call was refused.
     Refused(Refusal),
 }
 
-/// The output buffers of a call: it writes the bytes and the numbers of its reply here. One scratch serves many calls.
+/// The output buffers of a call. The call writes the packet or the sequence numbers that belong to its reply here. One scratch can serve many calls.
 #[derive(Debug, Drop)]
 pub struct Scratch {
     /// The bytes of a packet.

@@ -4,8 +4,8 @@ ghost use Rattle.std.specs.Borrow.{ftrue};
 
 use std::marker::{Model, PhantomData};
 
-/// A list of pairs in the order in which they were added. Only contracts see the pairs, as `items`. A trace takes no memory, and its
-/// methods do nothing at run time.
+/// A list of pairs, in the order in which they were added. Only contracts see the pairs, as `items`. At run time a trace takes no memory, and
+/// its methods do nothing.
 #[derive(Drop)]
 pub struct Trace<A, B> {
     of: PhantomData<(A, B)>,

@@ -32,7 +32,7 @@ use Rattle.script_texts.specs.WholeLines.{fault_line}
 use Rattle.sfu_commands.specs.PacketScript.{NumberedPacket, PacketScript, breaks_at, numbered, packets_in, packets_of, with_packet, with_packet_line}
 use Rattle.sfu_commands.specs.Check.{Checks, HasReceived, IsCheckStatus, Reception, bytes_in, check_due, check_end, check_part, checked, complaint_line, counted, due_for_packets, first_end, first_refused, judged_as, ok_line, receives, unless_ended, with_one}
 
--- ---- what is accepted
+-- ---- accepted packets
 
 module _ {S : Type 0} (format : Format S) where
   complaining_still : (c : Complaint) (more : List (Option Packet)) → receive_all format (Complaining c) more ≡ Complaining c
@@ -40,7 +40,7 @@ module _ {S : Type 0} (format : Format S) where
   complaining_still c (None ∷ more) = complaining_still c more
   complaining_still c (Some packet ∷ more) = complaining_still c more
 
-  -- all packets before the first one with a complaint are accepted, and no other
+  -- all packets before the first one with a complaint are accepted, and no others
   place_from : (m : Receiver S) (xs ys : List (Option Packet)) (y : Option Packet) → complaint_of (receive_all format m xs) ≡ None
       → is_content (receive format (receive_all format m xs) y) ≡ false → packets_accepted format m (xs ++ y ∷ ys) ≡ length xs
   place_from m [] ys y calm bad = ap (λ (b : Bool). cond b (packets_accepted format (receive format m y) ys + 1) 0) bad
@@ -54,7 +54,7 @@ module _ {S : Type 0} (format : Format S) where
       go (Receiving r) calm bad rec = let e = rec (Receiving r) calm bad in omega arith
       go (Complaining c) calm bad rec = let no : Some c ≡ None = sym (ap complaint_of (complaining_still c xs)) ∙ calm in absurd cc
 
-  -- at most all packets are accepted, and at most one frame for each
+  -- at most all packets are accepted, and at most one frame for each packet
   packets_few : (m : Receiver S) (came : List (Option Packet)) → packets_accepted format m came ≤ length came
   packets_few m [] = omega arith
   packets_few m (x ∷ more) = go (is_content (receive format m x)) (packets_few (receive format m x) more)
@@ -99,7 +99,7 @@ packets_most id xs = omega (arith, packets_few (format_of id) Waiting (map read_
 frames_most : (id : ℕ) (xs : List (List ℕ)) → frames_over id xs ≤ length xs
 frames_most id xs = omega (arith, frames_few (format_of id) Waiting (map read_packet xs), length-map xs read_packet)
 
--- ---- why a script ends the command
+-- ---- the reason why a script ends the command
 
 abbrev after : List NumberedPacket → PacketScript → PacketScript
 after past script = record { packets = past ++ script.packets; fault = script.fault }
@@ -138,7 +138,7 @@ calm_end id past fault calm =
 
 -- ---- lines
 
--- how the lines of packets are judged
+-- the verdicts on the lines of packets
 abbrev pub check_rule : Rule Reception
 check_rule = rule_of line_scan line_scan_end checked fault_line counted
 
@@ -260,7 +260,7 @@ abbrev why_in : Ending → Option End → Ending
 why_in other None = other
 why_in other (Some end) = end.why
 
--- nothing that is due for a check is about an OBU
+-- no text that is due for a check is about an OBU
 no_obu : (o : Option Complaint) (refused : ℕ) (fault : Option ℕ) (text : List ℕ) (end : End) → (unless_ended (first_end o refused fault) text).end ≡ Some end → end.why ≡ ending.Obu → ⊥
 no_obu (Some c) refused fault text end e is = let why : ending.Complaint ≡ ending.Obu = ap (why_in ending.Complaint) e ∙ is in cc
 no_obu None refused None text end e is = cc

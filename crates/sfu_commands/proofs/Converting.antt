@@ -1,4 +1,4 @@
--- What is due for lines, one after another, is a record for each of their calls.
+-- The text that is due for lines, one after another, is a record for each of their calls.
 use Rattle.std.proofs.Common.{◌≡◌, inl, inr, ℕ, ◌+◌, Bool, true, false, cond, leb, List, [], ◌∷◌, map, refl, sym, ap, ◌∙◌, arith, Option, Some, None}
 use Rattle.sfu_base.specs.declared.call.Call.{Call}
 use Rattle.sfu_driver.specs.declared.halt.Ending.TheVariants.{Outside}
@@ -14,10 +14,10 @@ use Rattle.sfu_driver.proofs.LineInputs.{due_is_lines, judged_is_lines}
 use Rattle.sfu_script.specs.ReadLines.{call_of}
 use Rattle.sfu_script.specs.Skipped.{is_skipped}
 use Rattle.script_records.specs.Records.{record_of}
-use Rattle.sfu_commands.specs.declared.form.Form.TheVariants.{Lines}
-use Rattle.sfu_commands.specs.Script.{Script, calls_of, judged_in, script_in, stops_at, with_call, with_unit}
+use Rattle.script_records.specs.declared.form.Form.TheVariants.{Lines}
+use Rattle.script_records.specs.Script.{Script, calls_of, judged_in, script_in, stops_at, with_call, with_unit}
 use Rattle.sfu_commands.specs.Convert.{IsConvertStatus, convert_due, converted, record_for, records_due, silent_end}
-use Rattle.sfu_commands.proofs.Alike.{IsDue}
+use Rattle.script_records.proofs.Alike.{IsDue}
 
 abbrev pub silent : ℕ → List ℕ
 silent number = []

@@ -13,11 +13,11 @@ use Rattle.sfu_commands.specs.IdWords.{IsWithId}
 decimal_is : (n : ℕ) → n < 2 ^ 8 → fields_of (Number8 ∷ []) (decimal n) ≡ Some (n ∷ [])
 decimal_is n small = fields_again (Number8 ∷ []) (n ∷ []) (decimal n) refl (omega arith) (small, refl)
 
--- the number that the second word of the command is read as
+-- the number as which the second word of the command is read
 id_read : (name word id : List ℕ) (n : ℕ) → IsWithId name (word ∷ id ∷ []) n → fields_of (Number8 ∷ []) id ≡ Some (n ∷ [])
 id_read name word id n is = let same : id ≡ decimal n = (let e = is.2 in cc) in ap (fields_of (Number8 ∷ [])) same ∙ decimal_is n (let small = is.1 in omega arith)
 
--- the numbers that are read are one
+-- there is only one number that is read
 one_number : (text numbers : List ℕ) → fields_of (Number8 ∷ []) text ≡ Some numbers → numbers ≡ get_or numbers 0 0 ∷ []
 one_number text numbers is = go (number_of 8 text) is
   where

@@ -1,5 +1,5 @@
--- What is due for lines of packets, one after another, is the file of the frames that a recorder takes from them, or its first fault, or the
--- fault of the first line that isn't a packet.
+-- The text that is due for lines of packets, one after another, is the file of the frames that a recorder
+-- takes from them. Or it is the recorder's first fault, or the fault of the first line that isn't a packet.
 use Rattle.std.proofs.Common.{◌≡◌, ◌⊎◌, inl, inr, ℕ, ◌+◌, Bool, true, false, cond, leb, List, [], ◌∷◌, ◌++◌, map, refl, sym, ap, ◌∙◌, arith, append_assoc, append-nil, Option, Some, None}
 use Rattle.ivf_recorder.specs.declared.fault.RecordFault.{RecordFault}
 use Rattle.ivf_recorder.specs.Frames.{fault_over, ivf_over}
@@ -23,7 +23,7 @@ use Rattle.sfu_commands.specs.PacketScript.{PacketScript, breaks_at, packets_of,
 use Rattle.sfu_commands.specs.Check.{Reception, bytes_in, unless_ended, with_one}
 use Rattle.sfu_commands.specs.Record.{IsRecordStatus, Records, end_from, end_unless, file_of, record_due, record_part, recorded, recorded_as, records}
 
--- how the lines of packets are judged
+-- the verdicts on the lines of packets
 abbrev pub record_rule : Rule Reception
 record_rule = rule_of line_scan line_scan_end recorded fault_line file_of
 

@@ -49,7 +49,7 @@ say_numbers command name frames start loss s t =
       loss_is = (omega arith, cc);
     }
 
--- numbers that are out of range are no stream
+-- numbers that are out of range aren't those of a stream
 pub out_of_range : (command name frames start loss : List ℕ) (f l : ℕ) → IsNumber f frames → IsNumber l loss → (f < 1) ⊎ (1000000 < f) ⊎ (50 < l)
     → (s : Stream) → ¬ (SaysStream command (name ∷ frames ∷ start ∷ loss ∷ []) s)
 out_of_range command name frames start loss f l is_f is_l out s t =
@@ -66,7 +66,7 @@ out_of_range command name frames start loss f l is_f is_l out s t =
     by_cause (inr (inl h)) a b some few small = omega arith
     by_cause (inr (inr h)) a b some few small = omega arith
 
--- the same words are at most one stream
+-- the same words are those of at most one stream
 pub same_stream : (command : List ℕ) (words : List (List ℕ)) (s t : Stream) → SaysStream command words s → SaysStream command words t → s ≡ t
 same_stream command words s t a b =
     let first = say_numbers command command (decimal s.frames) (decimal s.start) (decimal s.loss) s (subst (λ (w : List (List ℕ)). SaysStream command w s) a.words_are a) in
@@ -79,7 +79,7 @@ same_stream command words s t a b =
     stream : ℕ → ℕ → ℕ → Stream
     stream f x l = record { frames = f; start = x; loss = l }
 
--- four words are a trial, a cascade, or no command
+-- four words are those of a trial, of a cascade, or of no command
 pub no_other : (name frames start loss : List ℕ) (c : Command) → ((s : Stream) → ¬ (IsTrial (name ∷ frames ∷ start ∷ loss ∷ []) s))
     → ((s : Stream) → ¬ (IsCascade (name ∷ frames ∷ start ∷ loss ∷ []) s)) → ¬ (Says (name ∷ frames ∷ start ∷ loss ∷ []) c)
 no_other name frames start loss Run none no_cascade says = cc

@@ -1,5 +1,5 @@
--- The command `check ID`: each line of the source is a packet. A strict receiver, with this header extension id of the descriptors, checks the
--- packets. Own rule. The code feeds them to a receiver one after another, and stores none.
+-- The command `check ID`: each line of the source is a packet. A strict receiver checks the packets; ID is the header
+-- extension id of their descriptors. Own rule. The code feeds the packets to a receiver one after another, and stores none.
 use Rattle.std.specs.Prelude.{◌≡◌, ◌⊎◌, ℕ, if◌then◌else◌, min, List, [], ◌∷◌, ◌++◌, map, Option, Some, None, codes, decimal, slice_index}
 use Rattle.forwarding_model.specs.declared.complaint.Complaint.{Complaint}
 use Rattle.strict_receiver.specs.Receivers.{Seen, StandsFor, complaint_over, frames_over, greatest_count, packets_over}
@@ -37,12 +37,12 @@ bytes_in packets = map (λ packet. packet.bytes) packets
 abbrev pub first_refused : ℕ → List NumberedPacket → ℕ
 first_refused id packets = slice_index (map (λ packet. packet.number) packets) (packets_over id (bytes_in packets))
 
--- a complaint ends the command at the line of its packet; else the first line outside the grammar does
+-- A complaint ends the command at the line of its packet. Without a complaint, the first line outside the grammar ends it.
 abbrev pub first_end : Option Complaint → ℕ → Option ℕ → Option End
 first_end None refused fault = outside_end fault_line fault
 first_end (Some complaint) refused fault = Some (end_by ending.Complaint (complaint_line refused complaint))
 
--- why a script ends the command, if it does
+-- the reason why a script ends the command, if it does
 abbrev pub check_end : ℕ → PacketScript → Option End
 check_end id script = first_end (complaint_over id (bytes_in script.packets)) (first_refused id script.packets) script.fault
 
@@ -51,7 +51,7 @@ abbrev pub unless_ended : Option End → List ℕ → Due
 unless_ended None text = record { text = text; end = None }
 unless_ended (Some end) text = record { text = []; end = Some end }
 
--- the counts of accepted packets and frames, or why the script ends the command
+-- the counts of accepted packets and frames, or the reason why the script ends the command
 abbrev pub due_for_packets : ℕ → PacketScript → Due
 due_for_packets id script =
     unless_ended (check_end id script) (ok_line (packets_over id (bytes_in script.packets)) (frames_over id (bytes_in script.packets)))
@@ -60,7 +60,7 @@ due_for_packets id script =
 abbrev pub check_due : ℕ → List ℕ → Due
 check_due id bytes = due_for_packets id (packets_in bytes)
 
--- what is due for bytes whose end hasn't been seen: no text before an end
+-- what is due for bytes whose end wasn't reached: no text before an end
 abbrev pub check_part : ℕ → List ℕ → Due
 check_part id bytes = record { text = []; end = check_end id (packets_so_far bytes) }
 
@@ -73,7 +73,7 @@ IsCheckStatus status = (status ≡ 0) ⊎ (status ≡ 3) ⊎ (status ≡ 4) ⊎ 
 
 -- ---- a line
 
--- the packets that came without a complaint, and the header extension id of the receiver
+-- the packets without a complaint so far, and the header extension id of the receiver
 pub record Reception : Type 0 where
   pub id : ℕ
   pub packets : List (List ℕ)

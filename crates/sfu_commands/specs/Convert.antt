@@ -1,4 +1,4 @@
--- The command `convert`: a script of lines is written as a script of records, one record for each call. Own rule.
+-- The command `convert`: writes a script of lines as a script of records, one record for each call. Own rule.
 use Rattle.std.specs.Prelude.{◌≡◌, ◌⊎◌, ℕ, if◌then◌else◌, List, [], ◌∷◌, ◌++◌, Option, Some, None, codes}
 use Rattle.std.specs.List.{flat_map}
 use Rattle.sfu_base.specs.declared.call.Call.{Call}
@@ -10,9 +10,9 @@ use Rattle.sfu_driver.specs.Statuses.{Due, Statuses, text_before}
 use Rattle.sfu_script.specs.ReadLines.{call_of}
 use Rattle.sfu_script.specs.Skipped.{is_skipped}
 use Rattle.script_records.specs.Records.{record_of}
-use Rattle.sfu_commands.specs.declared.form.Form.TheVariants.{Lines}
-use Rattle.sfu_commands.specs.Records.{header}
-use Rattle.sfu_commands.specs.Script.{Script, judged_in, script_in}
+use Rattle.script_records.specs.declared.form.Form.TheVariants.{Lines}
+use Rattle.script_records.specs.RecordCut.{header}
+use Rattle.script_records.specs.Script.{Script, judged_in, script_in}
 
 abbrev pub IsConvert : List (List ℕ) → Type 0
 IsConvert words = words ≡ codes "convert" ∷ []
@@ -48,7 +48,7 @@ records_due script = record { text = records_of script.calls; end = silent_end s
 abbrev pub convert_due : List ℕ → Due
 convert_due bytes = text_before header (records_due (script_in Lines bytes))
 
--- what is due for bytes whose end hasn't been seen
+-- what is due for bytes whose end wasn't reached
 abbrev pub convert_part : List ℕ → Due
 convert_part bytes = text_before header (records_due (judged_in Lines bytes))
 

@@ -1,4 +1,4 @@
--- The usage line, written by the command `help` and for words that are no command.
+-- The usage line. It is written by the command `help`, and for words that aren't a command.
 use Rattle.std.specs.Prelude.{◌≡◌, ◌⊎◌, ℕ, List, [], ◌∷◌, Option, codes}
 use Rattle.std.specs.Io.KnownBytes.{Appends}
 use Rattle.sfu_base.specs.Faults.{Rose}
@@ -12,7 +12,7 @@ IsHelp words = words ≡ codes "help" ∷ []
 abbrev pub usage_text : List ℕ
 usage_text = codes "usage: run, together, trial, check, record, serve, convert, simulcast, cascade, help\n"
 
--- The usage line was written, or the sink failed before all of it was.
+-- The usage line was written, or the sink failed before all of it was written.
 pub record ShowsUsage (written written' : Option (List ℕ)) (writes writes' status : ℕ) : Type 0 where
   pub done : status ≡ 0 → Appends written written' usage_text
   pub sink : status ≡ 4 → Rose writes writes'
@@ -25,7 +25,7 @@ pub record Helps {S : Type 0} (source source' : S) (written written' : Option (L
   pub unread : source' ≡ source
   pub shows : ShowsUsage written written' writes writes' status
 
--- Words that are no command: nothing is read, and the usage line is written, or a prefix of it if the sink fails.
+-- Words that aren't a command: nothing is read, and the usage line is written, or a prefix of it if the sink fails.
 pub record Refuses {S : Type 0} (source source' : S) (written written' : Option (List ℕ)) (writes writes' status : ℕ) : Type 0 where
   pub unread : source' ≡ source
   pub shows : WritesEnd written written' writes writes' [] usage_text

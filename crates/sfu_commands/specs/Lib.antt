@@ -1,17 +1,9 @@
-pub mod Records
-pub mod Script
-pub mod Run
 pub mod Convert
 pub mod PacketScript
 pub mod IdWords
 pub mod Check
 pub mod Record
-pub mod Recorded
-pub mod Promise
 pub mod Help
-pub mod Trial
-pub mod MadePackets
-pub mod Staged
 pub mod StreamWords
 pub mod StreamNumbers
 pub mod Words

@@ -22,16 +22,16 @@ breaks_at number = record { packets = []; fault = Some number }
 abbrev pub numbered : ℕ → List ℕ → NumberedPacket
 numbered number bytes = record { number = number; bytes = bytes }
 
--- the script with one more line before it: a packet, or a line outside the grammar
+-- the script with one more line at its start: a packet, or a line outside the grammar
 abbrev pub with_packet : Option (List ℕ) → ℕ → PacketScript → PacketScript
 with_packet None number others = breaks_at number
 with_packet (Some bytes) number others = record { packets = numbered number bytes ∷ others.packets; fault = others.fault }
 
--- the same by the line's text: a skipped line is counted, and has no packet
+-- the same, by the line's text: a skipped line is counted, and has no packet
 abbrev pub with_packet_text : List ℕ → ℕ → PacketScript → PacketScript
 with_packet_text text number others = if is_skipped text then others else with_packet (bytes_of text) number others
 
--- the same by a scan of the line; there are at most 4,294,967,295 lines
+-- the same, by a scan of the line; there are at most 4,294,967,295 lines
 abbrev pub with_packet_line : Scan → ℕ → PacketScript → PacketScript
 with_packet_line More number others = others
 with_packet_line (Whole text) number others = if nat_le number 4294967295 then with_packet_text text number others else breaks_at number
@@ -46,6 +46,6 @@ packets_of (line ∷ lines) number = with_packet_line (said line) number (packet
 abbrev pub packets_in : List ℕ → PacketScript
 packets_in bytes = packets_of (lines_of bytes) 1
 
--- the packets of the lines that are judged before the end of the script is seen
+-- the packets of the lines that are judged before the end of the script is reached
 abbrev pub packets_so_far : List ℕ → PacketScript
 packets_so_far bytes = packets_of (judged_lines (lines_of bytes)) 1

@@ -1,5 +1,5 @@
--- The command `record ID`: each line of the source is a packet. At the end the frames that a strict receiver accepts from the packets are written as
--- an IVF file. Own rule. The code feeds the packets to a recorder one after another, and stores none.
+-- The command `record ID`: each line of the source is a packet. At the end it writes the frames that a strict receiver accepts
+-- from the packets, as an IVF file. Own rule. The code feeds the packets to a recorder one after another, and stores none.
 use Rattle.std.specs.Prelude.{◌≡◌, ◌⊎◌, ℕ, if◌then◌else◌, List, [], ◌∷◌, ◌++◌, Option, Some, None, codes}
 use Rattle.ivf_recorder.specs.declared.fault.RecordFault.{RecordFault}
 use Rattle.ivf_recorder.specs.declared.fault.RecordFault.TheVariants as fault
@@ -24,11 +24,11 @@ IsRecord words id = IsWithId (codes "record") words id
 
 -- ---- texts
 
--- the output line for a line whose packet ends a frame with an element that isn't an OBU
+-- the output line for a line whose packet ends a frame in which an element isn't an OBU
 abbrev pub obu_line : ℕ → List ℕ
 obu_line number = obu_text number ++ 10 ∷ []
 
--- why a fault at the packet of this line ends the command, and the output line for it
+-- the reason why a fault at the packet of this line ends the command, and the output line for it
 abbrev pub end_at : ℕ → RecordFault → End
 end_at number (fault.Complaint complaint) = end_by ending.Complaint (complaint_line number complaint)
 end_at number fault.Obu = end_by ending.Obu (obu_line number)
@@ -40,17 +40,17 @@ abbrev pub end_unless : Option RecordFault → ℕ → Option End → Option End
 end_unless None number others = others
 end_unless (Some f) number others = Some (end_at number f)
 
--- The first of these packets with a fault ends the command; if none has a fault, this end does. They come after other packets.
+-- The first of these packets with a fault ends the command; if none has a fault, `last` does. The packets follow the packets `came`.
 abbrev pub end_from : ℕ → List (List ℕ) → List NumberedPacket → Option End → Option End
 end_from id came [] last = last
 end_from id came (packet ∷ more) last =
     end_unless (fault_over id (came ++ packet.bytes ∷ [])) packet.number (end_from id (came ++ packet.bytes ∷ []) more last)
 
--- why a script ends the command, if it does
+-- the reason why a script ends the command, if it does
 abbrev pub record_end : ℕ → PacketScript → Option End
 record_end id script = end_from id [] script.packets (outside_end fault_line script.fault)
 
--- the file, or why the script ends the command
+-- the file, or the reason why the script ends the command
 abbrev pub due_for_frames : ℕ → PacketScript → Due
 due_for_frames id script = unless_ended (record_end id script) (ivf_over id (bytes_in script.packets))
 
@@ -58,7 +58,7 @@ due_for_frames id script = unless_ended (record_end id script) (ivf_over id (byt
 abbrev pub record_due : ℕ → List ℕ → Due
 record_due id bytes = due_for_frames id (packets_in bytes)
 
--- what is due for bytes whose end hasn't been seen: no text before an end
+-- what is due for bytes whose end wasn't reached: no text before an end
 abbrev pub record_part : ℕ → List ℕ → Due
 record_part id bytes = record { text = []; end = record_end id (packets_so_far bytes) }
 
@@ -71,7 +71,7 @@ IsRecordStatus status = (status ≡ 0) ⊎ (status ≡ 3) ⊎ (status ≡ 4) ⊎
 
 -- ---- a line
 
--- a recorder represents these packets; once its file was taken, nothing is required
+-- A recorder represents these packets. Once its file was taken, nothing is required.
 abbrev pub HasRecorded : Option Recording → Reception → Type 0
 HasRecorded None reception = Unit {0}
 HasRecorded (Some recorder) reception = (recorder.receiver.id ≡ reception.id) × StandsFor recorder reception.packets

@@ -4,9 +4,7 @@ ghost use Rattle.sfu_commands.specs.Convert.{Converts, IsConvertStatus, converte
 ghost use Rattle.sfu_driver.specs.Statuses.{number_of};
 ghost use Rattle.sfu_driver.specs.Exchange.{exchange_of};
 
-use crate::call_reader::read_line;
-use crate::record_cut::HEADER;
-use script_records::write_record;
+use script_records::{HEADER, read_line, write_record};
 use sfu_base::{Blob, NoMemory, Sink, Source};
 use sfu_driver::{Ending, Halt, Judge, Lines, Status, Units, answer, write_all};
 use sfu_script::{LineReader, is_skipped};

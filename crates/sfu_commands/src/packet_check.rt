@@ -58,7 +58,7 @@ fn add_counts(packets: u64, frames: u64, ready: &mut Blob) -> Result<(), NoMemor
 }
 
 impl PacketJudge {
-    /// A judge before its first packet; `id` is the header extension id of the descriptors.
+    /// Returns a judge before its first packet; `id` is the header extension id of the descriptors.
     pub fn new(alloc: Global, id: u8) -> Result<PacketJudge, NoMemory>
         ensures { IfOk result (λ judge. HasReceived judge.receiver (nothing_received id)) }
     {

@@ -34,7 +34,7 @@ fn add_obu(number: u32, ready: &mut Blob) -> Result<(), NoMemory>
 }
 
 impl PacketRecorder {
-    /// A judge before its first packet; `id` is the header extension id of the descriptors.
+    /// Returns a judge before its first packet; `id` is the header extension id of the descriptors.
     pub fn new(alloc: Global, id: u8) -> Result<PacketRecorder, NoMemory>
         ensures { IfOk result (λ judge. HasRecorded judge.recorder (nothing_received id)) }
     {

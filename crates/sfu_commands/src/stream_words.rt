@@ -31,7 +31,7 @@ fn number(word: &str) -> Option<u64>
     }
 }
 
-/// If four arguments are the command `command` with its parameters, returns the parameters, else `None`.
+/// Returns the parameters if four arguments are the command `command` with its parameters; otherwise returns `None`.
 pub fn read_stream(
     command: &str,
     name: &str,

@@ -28,7 +28,7 @@ pub enum Command {
     Cascade { frames: u32, start: u64, loss: u8 },
 }
 
-// The command that one word is.
+// Reads one word as a command.
 fn read_word(word: &str) -> Option<Command>
     ensures { ReadsWord word.now result }
 {
@@ -41,7 +41,7 @@ fn read_word(word: &str) -> Option<Command>
     }
 }
 
-// The command that two words are.
+// Reads two words as a command.
 fn read_two(word: &str, id: &str) -> Option<Command>
     ensures { ReadsTwo word.now id.now result }
 {
@@ -51,7 +51,7 @@ fn read_two(word: &str, id: &str) -> Option<Command>
     read_id("record", word, id).map(Command::Record)
 }
 
-// The command that four words are.
+// Reads four words as a command.
 fn read_four(name: &str, frames: &str, start: &str, loss: &str) -> Option<Command>
     ensures { ReadsFour name.now frames.now start.now loss.now result }
 {
@@ -72,7 +72,7 @@ fn read_four(name: &str, frames: &str, start: &str, loss: &str) -> Option<Comman
     }
 }
 
-/// The command in the command-line arguments `words`; `None` exactly if they aren't a command.
+/// Reads the command-line arguments `words` as a command. Returns `None` exactly if they aren't one.
 pub fn read_words(words: &[String]) -> Option<Command>
     ensures { Reads (map string_bytes words.now) result }
 {

@@ -1,4 +1,4 @@
--- What a command did, by its status.
+-- What a command has done, by its status.
 use Rattle.std.proofs.Common.{◌≡◌, ◌≢◌, ◌<◌, ◌⊎◌, inl, inr, ℕ, List, ◌++◌, refl, sym, ap, ◌∙◌, subst, arith, Option, Some, None, Result, Ok, Err}
 use Rattle.std.specs.Prelude.{IfSome, IsOk}
 use Rattle.std.specs.Io.KnownBytes.{Consumes, IsAtEnd}
@@ -42,7 +42,7 @@ completes_six : (e : Option End) → Completes e 6
 completes_six None = inr refl
 completes_six (Some end) = inr refl
 
--- a number that is no input's status
+-- a number that isn't the status of an input
 pub no_status : (n : ℕ) (why : Ending) → (n < 5) ⊎ (n ≡ 6) → n ≡ status_of why → ⊥
 no_status n ending.Outside other is = omega arith
 no_status n ending.Complaint other is = omega arith
@@ -75,7 +75,7 @@ same_why ending.Obu ending.Outside is = absurd (omega arith)
 same_why ending.Obu ending.Complaint is = absurd (omega arith)
 same_why ending.Obu ending.Obu is = refl
 
--- the count of a source whose first read succeeded is the one before it
+-- the count of faults of a source whose first read succeeded is that before the read
 pub cause_since : (g0 g g' f f' : ℕ) (result : Result (Unit {0}) Interruption) → g ≡ g0 → CauseOf g g' f f' result → CauseOf g0 g' f f' result
 cause_since g0 g g' f f' result same cause = subst (λ (n : ℕ). CauseOf n g' f f' result) same cause
 
@@ -85,7 +85,7 @@ told_if : {U S T : Type 0} (stands : U → T → Type 0) (byte : S → ℕ → O
 told_if stands byte ends s new None left' w w' f f' result d = tt
 told_if stands byte ends s new (Some b) left' w w' f f' result d = told stands byte ends s b new left' w w' f f' result d
 
--- what was read before the last piece doesn't end the command
+-- the bytes that were read before the last piece don't end the command
 abbrev pub prompt_of : {U S T : Type 0} (stands : U → T → Type 0) (byte : S → ℕ → Outcome S) (ends : S → Outcome T) (s : S) (new : U) (left left' w w' : Option (List ℕ)) (f f' : ℕ) (result : Result (Unit {0}) Interruption)
     → Drove stands byte ends s new left left' w w' f f' result → IsPrompt (λ taken. due_of (takes byte s taken)) left left' w w'
 prompt_of stands byte ends s new left left' w w' f f' result d = record {
@@ -106,7 +106,7 @@ begun_by : {U S T : Type 0} (stands : U → T → Type 0) (byte : S → ℕ → 
 begun_by stands byte ends s new left left' w w' f f' result d =
     if_some left _ _ (λ b t. told_begun byte ends s b left' w w' f f' result t) (told_if stands byte ends s new left left' w w' f f' result d)
 
--- the command ended in these bytes, or at the end of all
+-- the command ended in these bytes, or at the end of all bytes
 decided_by : {S : Type 0} (byte : S → ℕ → Outcome S) (s : S) (taken : List ℕ) (why other : Ending) (left' : Option (List ℕ)) → why ≡ other → ((last : List ℕ) × ((takes byte s taken).result ≡ Err (end_by why last))) ⊎ IsAtEnd left'
     → Decides (λ bytes. due_of (takes byte s bytes)) other left' taken
 decided_by byte s taken why other left' same (inl bad) =
@@ -115,7 +115,7 @@ decided_by byte s taken why other left' same (inr end) = inr end
 
 -- ---- for every source
 
--- what a status says about the bytes that were taken
+-- the meaning of a status for the bytes that were taken
 pub says_by : {U S T : Type 0} (stands : U → T → Type 0) (byte : S → ℕ → Outcome S) (ends : S → Outcome T) (s : S) (taken : List ℕ) (new : U) (left' w w' : Option (List ℕ)) (f f' : ℕ) (result : Result (Unit {0}) Interruption)
     → DroveBy stands byte ends s taken new left' w w' f f' result
     → SaysOf (λ bytes. due_of (then_due (takes byte s bytes) ends)) (λ bytes. due_of (takes byte s bytes)) taken left' w w' f f' (status_for result)
@@ -217,7 +217,7 @@ first_fault_by g g' f f' (Err (Halted (Ended why))) cause = record {
   ports = λ e. absurd (not_seven why e);
 }
 
--- the same if the reads before it succeeded, or there were none
+-- the same if the reads before it succeeded, or if there were none
 pub with_reads : (g g' f f' status : ℕ) → g' ≡ g → FirstFault 0 0 f f' status → FirstFault g g' f f' status
 with_reads g g' f f' status kept x = record {
   none = λ e. (kept, (x.none e).1);

@@ -1,11 +1,11 @@
--- What bytes change in a unit.
+-- The effect of bytes on a unit.
 use Rattle.std.proofs.Common.{◌≡◌, ℕ, List, [], ◌∷◌, ◌++◌, take, refl, sym, ap, ◌∙◌, Result, Ok, Err, append_assoc, append-nil}
 use Rattle.sfu_driver.specs.Outcome.{End, Outcome, before, goes_on, takes, then_due}
 use Rattle.sfu_driver.specs.Scan.{AllMore, EndsAt, Scan, More, NoUnit, Whole}
 use Rattle.sfu_driver.specs.Point.{Point, Rule, byte, ended, judged, moved}
 use Rattle.sfu_driver.proofs.Takes.{takes_ok}
 
--- the point where these bytes were kept
+-- the point after these bytes were added to the unit
 abbrev pub at : {S : Type 0} → S → ℕ → List ℕ → Point S
 at state number kept = record { state = state; number = number; kept = kept }
 

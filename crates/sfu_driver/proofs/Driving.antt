@@ -1,4 +1,4 @@
--- The end of the input, and the whole of it.
+-- The end of the input, and the whole input.
 use Rattle.std.proofs.Common.{◌≡◌, ◌≤◌, ℕ, ◌⊎◌, inl, inr, List, [], ◌++◌, refl, sym, ap, ◌∙◌, subst, Option, Some, None, Result, Ok, Err, append_assoc, append-nil}
 use Rattle.std.specs.Io.KnownBytes.{Appends, IsAtEnd}
 use Rattle.std.proofs.KnownBytes.{Appends-trans}
@@ -28,7 +28,7 @@ stopped_drove {U} {S} {T} wants stands byte ends s bytes new left' w w' f f' (Ha
     )
 stopped_drove wants stands byte ends s bytes new left' w w' f f' (Halted Starved) b = b.writes
 
--- ---- the command came to the end
+-- ---- the command reached the end
 
 pub ended_drove : {U V S T : Type 0} (at : V → S → Type 0) (stands : U → T → Type 0) (byte : S → ℕ → Outcome S) (ends : S → Outcome T) (s : S) (bytes : List ℕ) (u : V) (new : U) (r : List ℕ) (left' w0 w1 w2 : Option (List ℕ)) (f0 f1 f2 : ℕ)
     (result : Result (Unit {0}) Interruption) → f0 ≤ f1 → (a : Fed at byte s bytes u [] r w0 w1) → r ≡ [] → IsAtEnd left' → EndsBy stands (ends a.later) new w1 w2 f1 f2 result
@@ -65,9 +65,9 @@ ended_drove {U} {V} {S} {T} at stands byte ends s bytes u new r left' w0 w1 w2 f
       wrote = subst (Appends w0 w2) (append-nil (takes byte s bytes).text) (Appends-trans w0 w1 w2 (takes byte s bytes).text [] first e);
     }
 
--- ---- the whole input is known
+-- ---- contracts see the whole input
 
--- What is known of a command whose whole input is known, by why it stopped.
+-- The facts about a command whose whole input contracts see, by the reason why it stopped.
 abbrev pub ToldBy : {S T : Type 0} → (S → ℕ → Outcome S) → (S → Outcome T) → S → List ℕ → Option (List ℕ) → Option (List ℕ) → Option (List ℕ) → ℕ → ℕ → Result (Unit {0}) Interruption → Type 0
 ToldBy {S} {T} byte ends s all left' w w' f f' (Ok _) = IsAtEnd left' × ((later : T) × ((then_due (takes byte s all) ends).result ≡ Ok later)) × Appends w w' (then_due (takes byte s all) ends).text
 ToldBy {S} {T} byte ends s all left' w w' f f' (Err SourceFault) = WritesFor byte s all [] w w'
@@ -86,7 +86,7 @@ whole_front byte ends s xs ys =
 at_end : (taken r : List ℕ) → IsAtEnd (Some r) → taken ++ r ≡ taken
 at_end taken r end = ap (λ (xs : List ℕ). taken ++ xs) end ∙ append-nil taken
 
--- the command ended in the first bytes or at the end of all
+-- the command ended in the first bytes, or at the end of all bytes
 all_due : {S T : Type 0} (byte : S → ℕ → Outcome S) (ends : S → Outcome T) (s : S) (xs r : List ℕ) (why : Ending) → ((last : List ℕ) × ((takes byte s xs).result ≡ Err (end_by why last))) ⊎ IsAtEnd (Some r)
     → then_due (takes byte s (xs ++ r)) ends ≡ then_due (takes byte s xs) ends
 all_due {S} {T} byte ends s xs r why (inl bad) =
@@ -128,7 +128,7 @@ front_of_all byte ends s all w w' b =
     let more = whole_front byte ends s b.front b.more in
     subst (WritesFront w w') (sym (ap (λ (bytes : List ℕ). (then_due (takes byte s bytes) ends).text) b.split ∙ more.1)) (front_longer w w' (takes byte s b.front).text more.0 (front_all w w' (takes byte s b.front).text b.wrote))
 
--- a prefix of what is due was written, whatever stopped the command
+-- a prefix of the text that is due was written, whatever stopped the command
 pub told_begun : {S T : Type 0} (byte : S → ℕ → Outcome S) (ends : S → Outcome T) (s : S) (all : List ℕ) (left' w w' : Option (List ℕ)) (f f' : ℕ) (result : Result (Unit {0}) Interruption)
     → ToldBy byte ends s all left' w w' f f' result → WritesFront w w' ((then_due (takes byte s all) ends).text ++ last_text (end_of (then_due (takes byte s all) ends).result))
 told_begun {S} {T} byte ends s all left' w w' f f' result b =
@@ -180,7 +180,7 @@ drove_took {U} {V} {S} {T} wants at stands byte ends u u1 new r r1 left left' w0
       (subst (λ (xs : List ℕ). Stopped (wants u1) stop byte s (took.earlier ++ took.piece) xs w0 w1 f0 f1) none (took.feeds s stand));
 }
 
--- for every result of the end, some text was written
+-- for every result at the end, some text was written
 pub some_end : {U T : Type 0} (stands : U → T → Type 0) (due : Outcome T) (new : U) (w w' : Option (List ℕ)) (f f' : ℕ) (result : Result (Unit {0}) Interruption) → EndsBy stands due new w w' f f' result → (text : List ℕ) × Appends w w' text
 some_end stands due new w w' f f' (Ok _) e = (due.text, e.3)
 some_end stands due new w w' f f' (Err SourceFault) e = absurd e

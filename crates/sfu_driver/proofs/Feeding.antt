@@ -1,4 +1,4 @@
--- What pieces do, one after another, and a flush, and an end.
+-- The effect of pieces, one after another, of a flush, and of an end.
 use Rattle.std.proofs.Common.{◌≡◌, ◌<◌, ◌≤◌, inl, ℕ, ◌-◌, List, [], ◌∷◌, ◌++◌, length, take, drop, refl, sym, ap, ◌∙◌, subst, arith, Option, Result, Ok, Err, append_assoc, append-nil}
 use Rattle.std.specs.Prelude.{IsOk, OnErr, OnOk}
 use Rattle.std.specs.Io.KnownBytes.{Appends, Consumes, Keeps}
@@ -80,7 +80,7 @@ feeds_on wants stands byte u0 u1 u2 xs ys r0 r1 r2 w0 w1 w2 f0 f1 f2 (Ok _) le f
 feeds_on wants stands byte u0 u1 u2 xs ys r0 r1 r2 w0 w1 w2 f0 f1 f2 (Err stop) le first second s stand =
     let a = first s stand in stopped_on (wants u2) stands byte s u1 xs ys r0 r1 w0 w1 w2 f0 f1 f2 stop le a (second a.later a.at)
 
--- ---- more bytes after those for which the sink failed
+-- ---- more bytes after those in whose text the sink failed
 
 pub feeds_longer : {U S : Type 0} (wants stands : U → S → Type 0) (byte : S → ℕ → Outcome S) (u u' : U) (xs ys r r' : List ℕ) (w w' : Option (List ℕ)) (f f' : ℕ)
     → Feeds wants stands byte u xs u' r r' w w' f f' (Err SinkFault) → Feeds wants stands byte u (xs ++ ys) u' r r' w w' f f' (Err SinkFault)
@@ -100,7 +100,7 @@ flush_feeds wants stands byte u r r' w w' f f' wrote empty s stand = record { la
 pub flush_fails : {U S : Type 0} (wants stands : U → S → Type 0) (byte : S → ℕ → Outcome S) (u u' : U) (r r' : List ℕ) (w w' : Option (List ℕ)) (f f' : ℕ) → WritesPart w w' r → Rose f f' → Feeds wants stands byte u [] u' r r' w w' f f' (Err SinkFault)
 flush_fails wants stands byte u u' r r' w w' f f' part rose s stand = (rose, subst (WritesPart w w') (sym (append-nil r)) part)
 
--- all that is ready is written, or a part of it
+-- all ready texts were written, or a part of them
 pub flush_does : {U S : Type 0} (wants stands : U → S → Type 0) (byte : S → ℕ → Outcome S) (u : U) (r r' : List ℕ) (w w' : Option (List ℕ)) (f f' : ℕ) (result : Result (Unit {0}) Interruption)
     → OnOk result (Appends w w' r) → OnOk result (r' ≡ []) → OnErr result (result ≡ Err SinkFault) → OnErr result (WritesPart w w' r) → OnErr result (Rose f f') → Feeds wants stands byte u [] u r r' w w' f f' result
 flush_does wants stands byte u r r' w w' f f' (Ok _) wrote empty fault part rose = flush_feeds wants stands byte u r r' w w' f f' wrote empty
@@ -122,7 +122,7 @@ pub next_feeds : {U S : Type 0} (wants stands : U → S → Type 0) (byte : S �
 next_feeds wants stands byte u u' piece r r' count w f f' nexts s stand =
     let j = nexts s stand in record { later = j.0; goes = j.1; at = j.2; flushed = []; wrote = Appends-nil w; whole = sym j.3 }
 
--- a text that was ready, and one after it
+-- a text that was ready, and a text after it
 behind_mark : (r r' text : List ℕ) (mark : ℕ) → mark ≡ length r → r' ≡ r ++ text → (take mark r' ≡ r) × (drop mark r' ≡ text)
 behind_mark r r' text mark at is = (
   ap (λ (n : ℕ). take n r') at ∙ ap (λ (xs : List ℕ). take (length r) xs) is ∙ take-append_seam r text,
@@ -159,7 +159,7 @@ pub next_halts : {U S : Type 0} (wants stands : U → S → Type 0) (byte : S �
     → ((s : S) → stands u s → wants u' s) → ((s : S) → stands u s → Nexts stands byte s piece u' r r' (Err why)) → Halts stop why (take mark r') (drop mark r') w w' f f' → Feeds wants stands byte u piece u' r r2 w w' f f' (Err stop)
 next_halts wants stands byte u u' piece r r' r2 mark w w' f f' why stop at here nexts h s stand = next_stops (wants u') stands byte s u' piece r r' mark w w' f f' why stop at (here s stand) (nexts s stand) h
 
--- ---- what was written
+-- ---- the text that was written
 
 -- for every result of the bytes, some text was written
 pub some_by : {U S : Type 0} (wants stands : U → S → Type 0) (byte : S → ℕ → Outcome S) (s : S) (bytes : List ℕ) (u' : U) (r r' : List ℕ) (w w' : Option (List ℕ)) (f f' : ℕ) (result : Result (Unit {0}) Interruption)
@@ -170,7 +170,7 @@ some_by wants stands byte s bytes u' r r' w w' f f' (Err SinkFault) b = (b.1.tex
 some_by wants stands byte s bytes u' r r' w w' f f' (Err (Halted (Ended why))) b = ((r ++ (takes byte s bytes).text) ++ b.2.front, b.2.wrote)
 some_by wants stands byte s bytes u' r r' w w' f f' (Err (Halted Starved)) b = (r ++ (takes byte s b.writes.front).text, b.writes.wrote)
 
--- nothing is ready: all that is due was written
+-- nothing is ready: all texts that are due were written
 pub all_flushed : {U S : Type 0} (stands : U → S → Type 0) (byte : S → ℕ → Outcome S) (s : S) (bytes : List ℕ) (u' : U) (r r' : List ℕ) (w w' : Option (List ℕ)) → r ≡ [] → r' ≡ []
     → Fed stands byte s bytes u' r r' w w' → Appends w w' (takes byte s bytes).text
 all_flushed stands byte s bytes u' r r' w w' none empty a =
@@ -212,7 +212,7 @@ took_on wants stands byte u0 u1 u2 r0 r1 r2 left0 left1 left2 w0 w1 w2 f0 f1 f2 
   feeds = feeds_on wants stands byte u0 u1 u2 (took.earlier ++ took.piece) piece r0 r1 r2 w0 w1 w2 f0 f1 f2 result le took.feeds feeds;
 }
 
--- bytes were taken, no more than units have so far, and a piece was read after them; the first read returned these
+-- Bytes were taken, no more than the units have so far, and a piece was read after them. The first read returned `first`.
 pub record HasRead {U S : Type 0} (wants stands : U → S → Type 0) (byte : S → ℕ → Outcome S) (old new : U) (ready ready' : List ℕ) (left left' written written' : Option (List ℕ)) (faults faults' : ℕ) (piece first : List ℕ) (most : ℕ) : Type 0 where
   pub before : Option (List ℕ)
   pub took : Took wants stands byte old new ready ready' left before written written' faults faults' (Ok tt)

@@ -1,4 +1,4 @@
--- What was written is a prefix of a longer text.
+-- The text that was written is a prefix of a longer text.
 use Rattle.std.proofs.Common.{◌≡◌, ◌≤◌, ℕ, ◌⊎◌, inl, inr, refl, List, [], ◌++◌, sym, ap, ◌∙◌, subst, arith, Option, Result, Ok, Err, append_assoc, append-nil, length-append}
 use Rattle.std.specs.Prelude.{OnErr, OnOk}
 use Rattle.std.specs.Io.KnownBytes.{Appends}
@@ -13,7 +13,7 @@ front_longer w w' xs ys part = (part.0, part.1 ++ ys, part.2, ap (λ (zs : List 
 pub front_all : (w w' : Option (List ℕ)) (xs : List ℕ) → Appends w w' xs → WritesFront w w' xs
 front_all w w' xs wrote = (xs, [], wrote, sym (append-nil xs))
 
--- ---- a part, and not all
+-- ---- a strict prefix
 
 pub part_longer : (w w' : Option (List ℕ)) (xs ys : List ℕ) → WritesPart w w' xs → WritesPart w w' (xs ++ ys)
 part_longer w w' xs ys part = record {
@@ -36,9 +36,9 @@ part_after w w1 w2 xs ys wrote part = record {
 pub part_front : (w w' : Option (List ℕ)) (xs : List ℕ) → WritesPart w w' xs → WritesFront w w' xs
 part_front w w' xs part = (part.text, part.more, part.wrote, part.split)
 
--- ---- a text, and then a last one
+-- ---- a text, and then a last text
 
--- a count that rose in the later of two calls, or in the earlier, rose in both together
+-- a count that rose in one of two calls rose over both together
 pub rose_since : (a b c : ℕ) → a ≤ b → Rose b c → Rose a c
 rose_since a b c le rose = omega arith
 
@@ -59,12 +59,12 @@ pub end_front : (w w' : Option (List ℕ)) (f f' : ℕ) (text last : List ℕ) �
 end_front w w' f f' text last end =
     (text ++ end.front, end.more, end.wrote, ap (λ (xs : List ℕ). text ++ xs) end.split ∙ sym (append_assoc text end.front end.more))
 
--- a last text alone
+-- only a last text
 pub end_alone : {E : Type 0} (w w' : Option (List ℕ)) (f f' : ℕ) (last : List ℕ) (result : Result (Unit {0}) E) → OnOk result (Appends w w' last) → OnErr result (WritesPart w w' last) → OnErr result (Rose f f') → WritesEnd w w' f f' [] last
 end_alone w w' f f' last (Ok x) wrote part rose = record { front = last; more = []; wrote = wrote; split = sym (append-nil last); whole = inr refl }
 end_alone w w' f f' last (Err e) wrote part rose = record { front = part.text; more = part.more; wrote = part.wrote; split = part.split; whole = inl rose }
 
--- a text, and then a last one
+-- a text, and then a last text
 pub end_behind : {E : Type 0} (w w1 w2 : Option (List ℕ)) (f0 f1 f2 : ℕ) (text last : List ℕ) (result : Result (Unit {0}) E) → f0 ≤ f1 → Appends w w1 text
     → OnOk result (Appends w1 w2 last) → OnErr result (WritesPart w1 w2 last) → OnErr result (Rose f1 f2) → WritesEnd w w2 f0 f2 text last
 end_behind w w1 w2 f0 f1 f2 text last result le first wrote part rose =

@@ -30,6 +30,6 @@ found_take bytes end first =
     let lf : get_or bytes end 0 ≡ 10 = eqb-true (get_or bytes end 0) 10 first.1 in
     (take_at_read bytes end 0 (omega (arith, first.0.high))).1 ∙ ap (λ (b : ℕ). take end bytes ++ b ∷ []) lf
 
--- none was found
+-- no LF was found
 pub found_none : (bytes : List ℕ) → IsFirstByte (is_byte 10) bytes None → is_unended bytes ≡ true
 found_none bytes none = subst (λ (xs : List ℕ). is_unended xs ≡ true) (take-length bytes) (unended_by bytes (length bytes) (λ k below is. none k (omega arith) below is))

@@ -1,4 +1,4 @@
--- What is due for bytes, one after another, is what is due for their lines.
+-- The text that is due for bytes, one after another, is the one due for their lines.
 use Rattle.std.proofs.Common.{◌≡◌, ◌≤◌, ◌<◌, ℕ, ◌+◌, Bool, true, false, not, cond, leb, eqb, List, [], ◌∷◌, ◌++◌, length, map, refl, sym, ap, ◌∙◌, subst, arith, Result, Ok, Err, append_assoc, append-nil, length-append}
 use Rattle.std.proofs.lemmas.Bool.{and_parts, eqb-true}
 use Rattle.std.proofs.lemmas.Bool.Decides.{nat_tests}
@@ -149,7 +149,7 @@ due_is_lines {S} step outside closing s n kept (b ∷ bytes) unended short =
         ∙ ap (λ (lines : List Line). due_all rule (map said lines) n s) begins.3
         ∙ ap (λ (l : Scan). then_due (judged rule s n l) (λ later. due_all rule (map said begins.2) (n + 1) later)) none)
 
--- ---- the lines that are judged before the end is seen
+-- ---- the lines that are judged before the end is reached
 
 pub takes_more : {S : Type 0} (rule : Rule S) (s : S) (n : ℕ) (kept : List ℕ) (b : ℕ) (bytes : List ℕ) → rule.scan n kept b ≡ More
     → takes (byte rule) (at s n kept) (b ∷ bytes) ≡ takes (byte rule) (at s n (kept ++ b ∷ [])) bytes
@@ -161,7 +161,7 @@ takes_end {S} rule s n kept b bytes seen end is =
     ap (λ (o : Outcome (Point S)). then_due o (λ q. takes (byte rule) q bytes)) (by_scan rule s n kept b seen is ∙ end_moves rule s n kept b seen end)
     ∙ then_assoc (judged rule s n seen) (λ later. goes_on (behind n later)) (λ q. takes (byte rule) q bytes)
 
--- what comes next may be replaced by what is also due
+-- what follows may be replaced by what has the same texts due
 pub then_same : {S T V : Type 0} (o : Outcome S) (f : S → Outcome T) (g : S → Outcome V) → ((s : S) → due_of (f s) ≡ due_of (g s)) → due_of (then_due o f) ≡ due_of (then_due o g)
 then_same {S} {T} {V} o f g same = by_result o.result
   where

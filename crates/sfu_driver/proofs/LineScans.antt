@@ -1,4 +1,4 @@
--- What bytes change in a line.
+-- The effect of bytes on a line.
 use Rattle.std.proofs.Common.{zero, suc, ◌≡◌, ◌≤◌, ◌<◌, ℕ, ◌+◌, ◌-◌, Bool, true, false, not, cond, leb, eqb, List, [], ◌∷◌, ◌++◌, length, take, drop, refl, sym, ap, ◌∙◌, subst, arith, Some, append_assoc, length-append}
 use Rattle.std.proofs.lemmas.Bool.{and_parts}
 use Rattle.std.proofs.lemmas.Bool.Decides.{nat_tests}
@@ -72,7 +72,7 @@ ends_line n kept piece at first short =
       ends = ap (λ (t : Bool). cond t (Whole (without_cr (kept ++ take at piece))) NoUnit) e;
     }
 
--- ---- too long a line
+-- ---- a line that is too long
 
 pub split_at : (bytes : List ℕ) (n : ℕ) → n < length bytes → (b : ℕ) × (take (n + 1) bytes ≡ take n bytes ++ b ∷ [])
 split_at [] n le = absurd (omega arith)

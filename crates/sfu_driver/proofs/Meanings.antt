@@ -1,4 +1,4 @@
--- Another rule with the same meaning, and texts that come before all others.
+-- Another rule with the same meaning, and texts that precede all others.
 use Rattle.std.proofs.Common.{◌≡◌, ◌⊎◌, inl, inr, ℕ, List, [], ◌++◌, append-nil, refl, sym, ap, ◌∙◌, subst, Option, Some, None}
 use Rattle.std.specs.Prelude.{IfSome}
 use Rattle.std.specs.Io.KnownBytes.{Appends, IsAtEnd}
@@ -11,7 +11,7 @@ if_some : (left : Option (List ℕ)) (P Q : List ℕ → Type 0) → ((b : List 
 if_some None P Q f p = tt
 if_some (Some b) P Q f p = f b p
 
--- What is due for these bytes, and for each prefix of them, in other words.
+-- What is due for these bytes, and for each prefix of them, in an equal form.
 pub says_alike : (whole part whole' part' : List ℕ → Due) (taken : List ℕ) (left' w w' : Option (List ℕ)) (f f' status : ℕ) → whole taken ≡ whole' taken
     → ((front more : List ℕ) → taken ≡ front ++ more → part front ≡ part' front)
     → SaysOf whole part taken left' w w' f f' status → SaysOf whole' part' taken left' w w' f f' status
@@ -62,7 +62,7 @@ every_alike whole part whole' part' left left' w w' g g' f f' status x same same
   first_fault = x.first_fault;
 }
 
--- What is due, in other words.
+-- What is due, in an equal form.
 pub statuses_same : (whole part whole' part' : List ℕ → Due) (left left' w w' : Option (List ℕ)) (g g' f f' status : ℕ) → ((b : List ℕ) → whole b ≡ whole' b) → ((b : List ℕ) → part b ≡ part' b)
     → Statuses whole part left left' w w' g g' f f' status → Statuses whole' part' left left' w w' g g' f f' status
 statuses_same whole part whole' part' left left' w w' g g' f f' status same same_part s = record {

@@ -1,4 +1,4 @@
--- What one call does with the start of a piece.
+-- The effect of one call on the start of a piece.
 use Rattle.std.proofs.Common.{◌≡◌, ◌≤◌, ℕ, ◌+◌, Bool, true, cond, leb, List, [], ◌++◌, length, take, drop, refl, sym, ap, ◌∙◌, subst, arith, Ok, Err, append-nil}
 use Rattle.std.proofs.lemmas.Bool.Decides.{nat_tests}
 use Rattle.std.proofs.lemmas.List.{take-append-drop}
@@ -82,7 +82,7 @@ next_err {C} {J} {S} stands rule old new piece out out' count seen (Ended why) i
       j.2,
     )
 
--- bytes that leave the grammar
+-- bytes that are outside the grammar
 pub next_outside : {C J S : Type 0} (stands : J → S → Type 0) (rule : Rule S) (old new : Units C J) (judge : J) (piece out out' : List ℕ) (count : ℕ) (halt : Halt) → EndsAt (rule.scan old.number) old.kept piece count NoUnit
     → ((s : S) → Judges stands (is_outside (rule.outside old.number)) judge out out' (Err halt)) → (p : Point S) → StandsAt stands old p
     → Judges (StandsAt stands) (takes (byte rule) p piece) new out out' (Err halt)

@@ -1,4 +1,4 @@
--- What is due for bytes after others.
+-- The text that is due for bytes after other bytes.
 use Rattle.std.proofs.Common.{◌≡◌, ℕ, List, [], ◌∷◌, ◌++◌, refl, sym, ap, ◌∙◌, Result, Ok, Err, append_assoc, append-nil}
 use Rattle.sfu_driver.specs.Outcome.{End, Outcome, after, before, takes, then_due}
 
@@ -16,7 +16,7 @@ after_then t (Err end) f g = refl
 pub then_assoc : {S T V : Type 0} (o : Outcome S) (f : S → Outcome T) (g : T → Outcome V) → then_due (then_due o f) g ≡ then_due o (λ s. then_due (f s) g)
 then_assoc o f g = after_then o.text o.result f g
 
--- a rule for what comes next may be replaced by another with the same results
+-- a rule for what follows may be replaced by another one with the same results
 pub after_same : {S T : Type 0} (t : List ℕ) (r : Result S End) (f g : S → Outcome T) → ((s : S) → f s ≡ g s) → after t r f ≡ after t r g
 after_same t (Ok s) f g same = ap (before t) (same s)
 after_same t (Err end) f g same = refl
@@ -33,7 +33,7 @@ then_ok {S} o q g is = ap (λ (r : Result S End). after o.text r g) is
 pub then_err : {S T : Type 0} (o : Outcome S) (end : End) (g : S → Outcome T) → o.result ≡ Err end → then_due o g ≡ record { text = o.text; result = Err end }
 then_err {S} o end g is = ap (λ (r : Result S End). after o.text r g) is
 
--- the state after the first bytes, and the others
+-- the state after the first bytes, and the other bytes
 pub takes_ok : {S : Type 0} (byte : S → ℕ → Outcome S) (s q : S) (xs ys : List ℕ) → (takes byte s xs).result ≡ Ok q
     → takes byte s (xs ++ ys) ≡ before (takes byte s xs).text (takes byte q ys)
 takes_ok byte s q xs ys is = takes_on byte s xs ys ∙ then_ok (takes byte s xs) q (λ p. takes byte p ys) is
@@ -47,7 +47,7 @@ more_of : {S T : Type 0} (o : Outcome S) (r : Result S End) (g : S → Outcome T
 more_of o (Ok q) g = ((g q).text, refl)
 more_of o (Err end) g = ([], sym (append-nil o.text))
 
--- the text of the first is a prefix of the whole text
+-- the text of the first bytes is a prefix of the whole text
 pub then_front : {S T : Type 0} (o : Outcome S) (g : S → Outcome T) → (more : List ℕ) × ((then_due o g).text ≡ o.text ++ more)
 then_front o g = more_of o o.result g
 

@@ -1,4 +1,4 @@
--- What is due for bytes, one after another, is what is due for their units, for any way to cut.
+-- The text that is due for bytes, one after another, is the one due for their units, for any way of cutting.
 use Rattle.std.proofs.Common.{◌≡◌, ℕ, ◌+◌, List, [], ◌∷◌, ◌++◌, refl, ap, ◌∙◌}
 use Rattle.sfu_driver.specs.Outcome.{takes, then_due}
 use Rattle.sfu_driver.specs.Scan.{Scan, More, NoUnit, Whole}

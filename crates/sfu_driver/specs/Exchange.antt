@@ -1,7 +1,7 @@
--- What a command takes from its source and writes to its sink, as far as contracts know. Own rule.
+-- What a command reads from its source and writes to its sink, as far as contracts see it. Own rule.
 use Rattle.std.specs.Prelude.{ℕ, List, Option}
 
--- what is left of the source, what was written to the sink, and how often each failed; before a command and, with a prime, after it
+-- The bytes left in the source, the bytes written to the sink, and the count of faults of each, before a command and (with a prime) after it.
 pub record Exchange : Type 0 where
   pub left : Option (List ℕ)
   pub left' : Option (List ℕ)

@@ -10,7 +10,7 @@ use crate::{Cut, Judge, MOST_PIECE, Status, Units, drive, drive_behind};
 use sfu_base::{Sink, Source};
 use std::alloc::Global;
 
-/// Takes the whole input of a command, writes what is due, and returns the status.
+/// Reads the whole input of a command, writes the texts that are due, and returns the status.
 pub fn answer<C: Cut, J: Judge, S: Source, K: Sink>(
     alloc: Global,
     units: &mut Units<C, J>,
@@ -26,8 +26,8 @@ pub fn answer<C: Cut, J: Judge, S: Source, K: Sink>(
     Status::of(drive(alloc, units, source, sink))
 }
 
-/// Takes a command's input, writes what is due, and returns the status. The first `first` bytes of the input were read before and
-/// are at the start of `piece`; `first` is 0 only if the input has ended.
+/// Does the same as [`answer`] for an input whose first `first` bytes were read
+/// before, into the start of `piece`. `first` is 0 only if the input has ended.
 pub fn answer_behind<C: Cut, J: Judge, S: Source, K: Sink>(
     alloc: Global,
     units: &mut Units<C, J>,

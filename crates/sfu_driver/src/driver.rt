@@ -1,4 +1,4 @@
-// Passes input from the source through the units, and writes the texts to the sink.
+// Passes input from the source to the units, and writes the texts to the sink.
 ghost use Rattle.std.specs.Prelude.{◌≡◌, ◌≢◌, ◌≤◌, ◌<◌, ◌+◌, ℕ, List, Option, [], Ok, Err, OnOk, OnErr, IfOk, take, drop, length};
 ghost use Rattle.std.specs.Io.KnownBytes.{Appends, Consumes, IsAtEnd};
 ghost use Rattle.sfu_base.specs.Faults.{Rose};
@@ -11,7 +11,7 @@ use crate::{Cut, Halt, Interruption, Judge, Units};
 use sfu_base::{Blob, Sink, Source};
 use std::alloc::Global;
 
-/// The most bytes that are read from a source at once.
+/// The greatest number of bytes that one read of a source returns.
 pub const MOST_PIECE: usize = 65_536;
 
 /// Texts are written once they have this many bytes, even in the middle of a piece of the input.
@@ -36,7 +36,7 @@ fn flush<K: Sink>(ready: &mut Blob, sink: &mut K) -> Result<(), Interruption>
     }
 }
 
-// Writes the texts from before the command ended, and then its last text. If the sink fails in the last text, the result is the same.
+// Writes the texts that were due before the command ended, and then its last text. A failure of the sink in the last text doesn't change the result.
 fn halt<K: Sink>(ready: &Blob, mark: usize, why: Halt, sink: &mut K) -> Interruption
     requires { mark ≤ length ready.now }
     ensures halts { Halts result why (take mark ready.now) (drop mark ready.now) (K.written sink.old) (K.written sink.new) (K.faults sink.old)
@@ -112,7 +112,7 @@ fn feed<C: Cut, J: Judge, K: Sink>(
     flush(ready, sink)
 }
 
-// Takes the first `first` bytes of `piece`, read before, and then all of the source, piece by piece.
+// Takes the first `first` bytes of `piece`, which were read before, and then the whole source, piece by piece.
 fn take_all<C: Cut, J: Judge, S: Source, K: Sink>(
     units: &mut Units<C, J>,
     ready: &mut Blob,
@@ -164,8 +164,8 @@ fn finish<C: Cut, J: Judge, K: Sink>(
     }
 }
 
-/// Takes a command's input, and writes what is due. The first `first` bytes of the input were read before and are at the start of `piece`;
-/// `first` is 0 only if the input has ended.
+/// Does the same as [`drive`] for an input whose first `first` bytes were read
+/// before, into the start of `piece`. `first` is 0 only if the input has ended.
 pub fn drive_behind<C: Cut, J: Judge, S: Source, K: Sink>(
     alloc: Global,
     units: &mut Units<C, J>,
@@ -193,7 +193,7 @@ pub fn drive_behind<C: Cut, J: Judge, S: Source, K: Sink>(
     finish(units, &mut ready, sink)
 }
 
-/// Takes the whole input of a command, and writes what is due.
+/// Reads the whole input of a command, and writes the texts that are due.
 pub fn drive<C: Cut, J: Judge, S: Source, K: Sink>(
     alloc: Global,
     units: &mut Units<C, J>,

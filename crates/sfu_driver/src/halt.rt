@@ -11,7 +11,7 @@ pub enum Ending {
     Outside,
     /// The strict receiver complains.
     Complaint,
-    /// A packet completes a frame that has an element that isn't an OBU.
+    /// A packet completes a frame in which an element isn't an OBU.
     Obu,
 }
 
@@ -37,7 +37,7 @@ impl From<NoMemory> for Halt {
 pub enum Interruption {
     /// The source failed.
     SourceFault,
-    /// The sink failed; but a failure in the last text of a `Halted` command doesn't count.
+    /// The sink failed. A failure in the last text of a `Halted` command doesn't count.
     SinkFault,
     /// A unit, or the end of the input, ended the command.
     Halted(Halt),

@@ -6,7 +6,7 @@ ghost use Rattle.sfu_driver.specs.Drive.{Judges};
 use crate::Halt;
 use sfu_base::{Blob, NoMemory};
 
-/// Judges units one after another, each with its number. Each text is appended to `ready`; the judge itself writes nothing out.
+/// Judges units one after another. Each unit has a number. The judge appends its texts to `ready`, and writes nothing to the sink.
 pub trait Judge {
     /// The states of the judge, as contracts see them.
     ghost State: { Type 0 };
@@ -14,16 +14,16 @@ pub trait Judge {
     /// Whether the judge is in this state.
     ghost stands: { Self → Self.State → Type 0 };
 
-    /// What is due for the unit with this number: a text, and then the next state or why it ends.
+    /// The outcome of the unit with this number: the text that is due, and then the next state or the reason why the command ends.
     ghost step: { Self.State → ℕ → List ℕ → Outcome Self.State };
 
-    /// The last text, if the unit with this number is outside the grammar of units.
+    /// The last text of a command that ends because the unit with this number is outside the grammar of units.
     ghost outside: { ℕ → List ℕ };
 
     /// The text that is due at the end of the input.
     ghost closing: { Self.State → List ℕ };
 
-    /// Judges the unit with this number. If the unit ends the command, only the last text is appended; if memory runs out, none is.
+    /// Judges the unit with this number. If the unit ends the command, only the last text is appended. If memory runs out, nothing is appended.
     fn judge(&mut self, number: u32, unit: &[u8], ready: &mut Blob) -> Result<(), Halt>
         ensures judges { (state : Self.State) → Self.stands self.old state
             → Judges Self.stands (Self.step state number unit.now) self.new ready.old ready.new result }

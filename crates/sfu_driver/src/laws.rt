@@ -9,8 +9,8 @@ ghost use Rattle.sfu_driver.specs.Statuses.{due_of};
 
 use crate::{Cut, Judge};
 
-/// What is due for the bytes of a whole input is what is due for its lines. What is due for bytes after which more may come is what
-/// is due for the lines that are judged by then.
+/// The texts that are due for the bytes of a whole input are those due for its lines. For
+/// bytes after which more may come, they are those due for the lines that are judged so far.
 pub fn bytes_make_lines<J: Judge>()
     ensures whole { (state : J.State) (number : ℕ) (bytes : List ℕ)
         → due (rule_of line_scan line_scan_end J.step J.outside J.closing) (record { state = state; number = number; kept = [] }) bytes
@@ -20,7 +20,7 @@ pub fn bytes_make_lines<J: Judge>()
         ≡ due_of (judged_all (rule_of line_scan line_scan_end J.step J.outside J.closing) (map said (judged_lines (lines_of bytes))) number state) }
 {}
 
-/// The same as `bytes_make_lines`, for units that are cut in any way.
+/// The same law as `bytes_make_lines`, for any way of cutting the input into units.
 pub fn bytes_make_units<C: Cut, J: Judge>()
     ensures whole { (state : J.State) (number : ℕ) (bytes : List ℕ)
         → due (rule_of C.scan C.scan_end J.step J.outside J.closing) (record { state = state; number = number; kept = [] }) bytes

@@ -7,12 +7,12 @@ ghost use Rattle.sfu_driver.specs.Scan.{Finds};
 use crate::{Cut, Found, Last, MOST_UNIT};
 use memchr::memchr;
 
-/// Cuts input into lines. Each ends with an LF, which the last line may lack. A CR directly before an LF isn't part of the text. A
-/// line has at most 4,200 bytes before its LF, a CR included.
+/// Cuts input into lines. Each line ends with an LF, which the last line may lack. A CR directly before
+/// the LF isn't part of the text. A line has at most 4,200 bytes before its LF, including the CR.
 #[derive(Clone, Copy, Debug, Drop)]
 pub struct Lines;
 
-// Whether the last byte is a CR.
+// Returns whether the last byte is a CR.
 #[inline(always)]
 fn has_cr(bytes: &[u8]) -> bool
     ensures { result ≡ ends_in_cr bytes.now }
@@ -23,7 +23,7 @@ fn has_cr(bytes: &[u8]) -> bool
     }
 }
 
-// Whether the last byte of `kept` followed by `came` is a CR.
+// Returns whether the last byte of `kept` followed by `came` is a CR.
 #[inline(always)]
 fn joined_cr(kept: &[u8], came: &[u8]) -> bool
     ensures { result ≡ ends_in_cr (kept.now ++ came.now) }
@@ -34,7 +34,7 @@ fn joined_cr(kept: &[u8], came: &[u8]) -> bool
     has_cr(came)
 }
 
-// The length of a line's text in bytes: up to its LF, or up to the CR directly before the LF.
+// Returns the length of a line's text in bytes: up to its LF, or up to the CR directly before the LF.
 #[inline(always)]
 fn text_len(kept: &[u8], came: &[u8]) -> usize
     requires { length kept.now + length came.now ≤ MOST_UNIT }
@@ -48,7 +48,7 @@ fn text_len(kept: &[u8], came: &[u8]) -> usize
     all
 }
 
-// The result for a line that is too long.
+// Returns the result for a line that is too long.
 fn too_long(kept: &[u8], piece: &[u8]) -> Found
     requires kept { length kept.now ≤ MOST_UNIT }
     requires long { MOST_UNIT < length kept.now + length piece.now }
@@ -60,7 +60,7 @@ fn too_long(kept: &[u8], piece: &[u8]) -> Found
     }
 }
 
-// The result for a line whose LF is at place `at` of the piece.
+// Returns the result for a line whose LF is at place `at` of the piece.
 #[inline(always)]
 fn end_line(kept: &[u8], piece: &[u8], at: usize) -> Found
     requires first { IsFirstByte (is_byte 10) piece.now (Some at) }

@@ -13,7 +13,7 @@ pub enum Status {
     NoCommand,
     /// The source failed: 3.
     SourceFault,
-    /// The sink failed, other than in the text that says why the input ended the command: 4.
+    /// The sink failed: 4. A failure in the text that says why the input ended the command doesn't count.
     SinkFault,
     /// Out of memory: 6.
     NoMemory,
@@ -25,7 +25,7 @@ pub enum Status {
 }
 
 impl Status {
-    /// The status of a command with this result.
+    /// Returns the status of a command with this result.
     pub fn of(came_out: Result<(), Interruption>) -> Status
         ensures { number_of result ≡ status_for came_out }
     {
@@ -38,7 +38,7 @@ impl Status {
         }
     }
 
-    /// The program's exit status.
+    /// Returns the program's exit status.
     pub fn number(self) -> u8
         ensures { result ≡ number_of self }
     {

@@ -70,7 +70,7 @@ impl Source for Pieces {
     }
 }
 
-// The status, and the bytes written.
+// Returns the status, and the bytes written.
 fn run(
     alloc: Global,
     input: &[u8],
@@ -139,7 +139,7 @@ fn a_line_has_at_most_4200_bytes(rt: HostRuntime) -> Result<(), Fail> {
             assert_eq!(rt; got, status, "{end:?} in pieces of {most}");
         }
     }
-    // Judged at the 4,201st byte of the line; a read that fails before that byte comes first.
+    // The line is judged at its 4,201st byte. If a read fails before that byte, that failure decides.
     line.push(b'a')?;
     assert_eq!(rt; run(alloc, line.as_slice(), 0, &[1], &[])?.0, 3);
     line.push(b'a')?;
@@ -150,7 +150,7 @@ fn a_line_has_at_most_4200_bytes(rt: HostRuntime) -> Result<(), Fail> {
 #[test]
 fn the_first_fault_ends_the_command(rt: HostRuntime) -> Result<(), Fail> {
     let alloc = rt.alloc();
-    // In pieces of 3 bytes: two texts, the last text, and a line after it that isn't read.
+    // The input is read in pieces of 3 bytes. It has three lines with texts, the line that ends the command, and a line that isn't read.
     let input = b"a\nbc\nd\nz\ne\n";
     for (read_fails, write_fails, status, text) in [
         ([].as_slice(), [].as_slice(), 8, "a\nbc\nd\nbad\n"),

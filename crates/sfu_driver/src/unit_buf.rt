@@ -3,10 +3,10 @@ ghost use Rattle.std.specs.Prelude.{◌≡◌, ◌+◌, ◌==◌, ◌≤◌, ◌
 
 use std::marker::Model;
 
-/// The capacity in bytes: the longest unit and the byte that ends it.
+/// The capacity in bytes: that of the longest unit and of the byte that ends it.
 pub const ROOM: usize = 4201;
 
-/// A buffer of up to 4,201 bytes. In contracts it is the list of its bytes.
+/// A buffer of up to 4,201 bytes. Contracts see it as the list of its bytes.
 #[derive(Debug, Drop)]
 pub struct UnitBuf {
     room: [u8; ROOM],
@@ -25,7 +25,7 @@ impl Model for UnitBuf {
 }
 
 impl UnitBuf {
-    /// An empty buffer.
+    /// Returns an empty buffer.
     pub fn new() -> UnitBuf
         ensures { result ≡ [] }
     {
@@ -42,7 +42,7 @@ impl UnitBuf {
         self.count = 0;
     }
 
-    /// The number of bytes.
+    /// Returns the number of bytes.
     pub fn len(&self) -> usize
         ensures len { result ≡ length self.now }
         ensures bounded { length self.now ≤ ROOM }
@@ -50,7 +50,7 @@ impl UnitBuf {
         self.count
     }
 
-    /// Whether there are no bytes.
+    /// Returns whether there are no bytes.
     pub fn is_empty(&self) -> bool
         ensures { result ≡ (length self.now == 0) }
     {
@@ -68,7 +68,7 @@ impl UnitBuf {
         self.count = end;
     }
 
-    /// The bytes, in order.
+    /// Returns the bytes, in order.
     pub fn bytes(&self) -> &[u8]
         ensures bytes { result.now ≡ self.now }
         ensures bounded { length self.now ≤ ROOM }

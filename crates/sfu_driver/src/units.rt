@@ -29,7 +29,7 @@ impl<C: Cut, J: Judge> Units<C, J> {
     ghost use Rattle.sfu_driver.specs.Scan.{Whole, between};
     ghost use Rattle.sfu_driver.specs.Units.{JudgeStands, StandsAt, progress, rule_of};
 
-    /// The state before any input was read. The first unit will have this number.
+    /// Returns the state before any input was read. The first unit gets the number `number`.
     pub fn new(cut: C, judge: J, number: u64) -> Self
         requires { number ≤ 1 }
         ensures judge { result.judge ≡ judge }

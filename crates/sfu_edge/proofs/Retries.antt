@@ -1,4 +1,4 @@
--- A call that was tried again does what its last try did, since those before it changed nothing that is known.
+-- A repeated call does what its last try did, since the earlier tries changed nothing that contracts see.
 use Rattle.std.specs.Prelude.{ℕ, List, None, Some, Result, Ok, Err, ◌++◌}
 use Rattle.std.proofs.Common.{◌∙◌, sym, ap}
 use Rattle.std.specs.Prelude.{Option}

@@ -1,5 +1,6 @@
-//! The edge to the system: sources and sinks over std's readers and writers, links and ports over UDP sockets, and the system's clock. They have
-//! the traits of the outside and count their faults. Their contracts say nothing of content: what a file, a terminal or a socket has in it.
+//! The edge to the operating system: sources and sinks over std's readers and writers, links and ports over UDP sockets, and the system's clock.
+//! All of these implement the traits for input and output of `sfu_base`. All but the clock count their faults. Their contracts don't say which
+//! bytes a file, a terminal or a socket delivers.
 #![tactic(auto)]
 
 mod receive_buffer;

@@ -1,16 +1,17 @@
-// The size of a socket's receive buffer: how many bytes of unreceived datagrams the system keeps.
+// The size of a socket's receive buffer, in which the system keeps datagrams until they are received.
 use libc::net as c;
 use std::net::UdpSocket;
 use std::os::fd::AsRawFd;
 
-/// The least size that a link requests, in bytes. The system counts some 2,300 bytes for a packet of 1,200, so this is enough for a burst of
-/// the length of a subscriber's queue.
+/// The least size of a receive buffer that a link requests, in bytes. The system counts some 2,300 bytes for a packet of 1,200. So this size is
+/// enough for a burst of 512 such packets, the capacity of a subscriber's queue.
 const LEAST_SIZE: i32 = 1_200_000;
 
-/// The length of a socket option's number, in bytes.
+/// The length of a socket option's value, in bytes.
 const NUMBER_BYTES: u32 = 4;
 
-/// Requests a larger buffer if the system's is below `LEAST_SIZE`. The limit is twice `net.core.rmem_max`; on refusal the default stays.
+/// Requests a larger buffer if the socket's is smaller than `LEAST_SIZE`. The system allows at most twice `net.core.rmem_max`. If it refuses, the
+/// default size stays.
 pub fn enlarge(socket: &UdpSocket) {
     let fd = socket.as_raw_fd();
     let mut value = [0u8; 16];

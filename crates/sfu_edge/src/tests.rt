@@ -1,4 +1,4 @@
-// Each adapter used once through its trait: over bytes, over a reader and a writer that fail, over sockets of this machine, and over clocks.
+// Tests that use each adapter once through its trait: over bytes, over a failing reader and writer, over sockets of this machine, and over clocks.
 use crate::trouble::{Trouble, trouble_of};
 use crate::{StdSink, StdSource, SysClock, UdpPorts, WakeTable};
 use sfu_base::{Address, Blob, Clock, Failed, Link, NoMemory, PacketBuf, Ports, Sink, Source};
@@ -11,7 +11,7 @@ use std::{io, time};
 
 mod waking;
 
-// Linux's numbers of errors (errno(3)).
+// Linux's error numbers (errno(3)).
 const EPERM: i32 = 1;
 
 const EINTR: i32 = 4;
@@ -107,7 +107,7 @@ impl Write for Broken {
     }
 }
 
-// A reader and a writer that succeed at every third call: before it a signal came, and a pipe wasn't ready.
+// A reader and a writer of which every third call succeeds. Of the two calls before it, a signal interrupts one, and the pipe isn't ready for the other.
 #[derive(Drop)]
 struct Wavering {
     calls: u8,
@@ -201,7 +201,7 @@ fn open(net: &impl Net) -> io::Result<(UdpSocket, SocketAddr, Address)> {
     Ok((socket, at, Address { ip: LOOPBACK, port }))
 }
 
-// The first result of at most a hundred receives that isn't `Ok(false)`, as of `heard`.
+// The result of `heard` for the first of at most a hundred receives that doesn't return `Ok(false)`.
 fn heard_soon<L: Link>(link: &mut L) -> (Result<bool, Failed>, Option<u8>) {
     for _ in 0..100 {
         let heard = heard(link);
@@ -212,7 +212,7 @@ fn heard_soon<L: Link>(link: &mut L) -> (Result<bool, Failed>, Option<u8>) {
     heard(link)
 }
 
-// Whether a datagram comes within a hundred receives.
+// Whether one of at most a hundred receives returns a datagram.
 fn is_soon_there<L: Link>(link: &mut L, buf: &mut PacketBuf) -> bool {
     for _ in 0..100 {
         if link.receive(buf) == Ok(true) {
@@ -222,7 +222,7 @@ fn is_soon_there<L: Link>(link: &mut L, buf: &mut PacketBuf) -> bool {
     false
 }
 
-// Whether three sends to an address where nobody listens succeed, and nothing comes back.
+// Whether three sends to an address where nobody listens succeed, and no datagram comes back.
 fn sends_to_nobody<L: Link>(link: &mut L) -> bool {
     for _ in 0..3 {
         if link.send(&packet(8)) != Ok(()) || heard(link) != (Ok(false), Some(9)) {
@@ -269,7 +269,7 @@ fn a_link_over_udp_hears_its_peer_alone_and_outlasts_one_that_goes_and_comes_bac
     Ok(())
 }
 
-// A system clock that reads this many milliseconds, or can't be read.
+// A system clock that shows this number of milliseconds, or can't be read.
 struct Reads(Option<u64>);
 
 impl time::Clock for Reads {

@@ -1,4 +1,4 @@
-// Links over UDP sockets: the trusted edge. Their contracts say nothing of content.
+// Links over UDP sockets, a part of the trusted edge. Their contracts don't say which datagrams arrive.
 ghost use Rattle.std.specs.Prelude.{◌≡◌, ◌<◌, ◌≤◌, None, IfOk, IfSome, length};
 
 use crate::receive_buffer::enlarge;
@@ -13,53 +13,53 @@ use std::os::fd::AsRawFd;
 use std::time::Duration;
 use std::{io, thread, time};
 
-/// The longest sleep of a receive while no datagram comes and no other link wakes it, in milliseconds: under 5 with the system's delay.
+/// The longest sleep of a receive in milliseconds, if no datagram comes and no other link wakes it. With the system's delay it stays below 5 milliseconds.
 const LONGEST_SLEEP: u64 = 4;
 
-/// The sleep of a quiet link's receive, in microseconds: less than 5 milliseconds with the system's delay. Nothing ends it early, which costs
-/// less than a sleep that can be ended.
+/// The sleep of a quiet link's receive, in microseconds. With the system's delay it stays below 5 milliseconds. Nothing ends this sleep early,
+/// which costs less than a sleep that can be ended.
 const QUIET_SLEEP: u64 = 4500;
 
-/// A link is quiet after this many receives in a row without a datagram and without a send between them: some 2 seconds.
+/// A link is quiet after this number of receives in a row without a datagram, if it sent nothing between them. These receives take some 2 seconds in all.
 const QUIET_AFTER: u32 = 500;
 
-/// The sleep of a busy link's receive, in microseconds. What comes meanwhile is forwarded together. Nothing ends the sleep early.
+/// The sleep of a busy link's receive, in microseconds. Datagrams that arrive during the sleep are forwarded together. Nothing ends this sleep early.
 const BUSY_SLEEP: u64 = 700;
 
-/// A link is busy if its socket was empty twice within this many microseconds, with a datagram between.
+/// A link is busy if it found its socket empty twice within this number of microseconds and received a datagram in between.
 const BUSY_WITHIN: u64 = 950;
 
-/// The longest pause of a link that follows a busy one, in microseconds. A longer one is an error of the clock.
+/// The longest pause of a link that follows a busy link, in microseconds. A longer pause would come from an error of the clock.
 const LONGEST_PAUSE: u64 = 1500;
 
 /// The number of datagrams received in a row after which the followers are woken even if the socket isn't empty.
 const ROW: u32 = 32;
 
-/// After a link has sent at least this many packets since its last receive, more may wait to be sent, so its next receive doesn't sleep. A
-/// session sends at most 32 packets between two receives.
+/// If a link has sent this number of packets or more since its last receive, further packets may wait to be sent. So its next receive doesn't
+/// sleep. A session sends at most 32 packets between two receives.
 const MUCH: u32 = 16;
 
 /// The time that a send waits between two tries while the system's buffer is full, in milliseconds.
 const SEND_WAIT: u64 = 1;
 
-/// The most datagrams from other addresses that one receive skips.
+/// The largest number of datagrams from other addresses that one receive skips.
 const OTHERS_LIMIT: u32 = 64;
 
 /// The number of tries of a send while the system's buffer is full.
 const SEND_TRIES: u32 = 100;
 
-/// The most bytes that are received of a datagram; the rest is cut off.
+/// The largest number of bytes that are received of one datagram. Further bytes are cut off.
 const DATAGRAM_LIMIT: usize = 2048;
 
-/// A link over a UDP socket, which only receives from its peer. The socket is connected to the peer, so the system drops datagrams from other
-/// addresses. If there is no route to the peer yet, each send tries again to connect. Loss in the network is no fault.
+/// A link over a UDP socket. It receives datagrams from its peer only: the socket is connected to the peer, so the system drops datagrams from
+/// other addresses. If there is no route to the peer yet, each send tries again to connect. Loss in the network isn't a fault.
 #[derive(Drop)]
 pub struct UdpLink<'a, R> {
     system: &'a R,
     socket: UdpSocket,
     peer: SocketAddr,
     is_connected: bool,
-    // for the socket and the waker; `events` has what ended a sleep, and isn't read
+    // waits for the socket and the waker; `events` says what ended a sleep, and isn't read
     poll: Poll,
     events: Events<Global>,
     table: &'a WakeTable,
@@ -81,8 +81,8 @@ pub struct UdpLink<'a, R> {
 }
 
 impl<'a, R: Net + time::Clock> UdpLink<'a, R> {
-    // Binds a socket to the local address, for a link with this name to this peer, with no faults yet. Returns the system's error, for example if the
-    // address is in use.
+    // Binds a socket to the local address, and returns a link to this peer with this name and no faults yet. Returns the system's error, for
+    // example if the address is in use.
     fn bind(
         system: &'a R,
         alloc: Global,
@@ -126,8 +126,8 @@ impl<'a, R: Net + time::Clock> UdpLink<'a, R> {
         })
     }
 
-    // Waits for the peer's next datagram, puts it into `datagram` and returns its length. Returns `None` if none came by the end of the sleep.
-    // If the last receive returned a datagram, this looks before it sleeps.
+    // Waits for the peer's next datagram, puts it into `datagram` and returns its length. Returns `None` if no datagram came by the end of the
+    // sleep. If the last receive returned a datagram, this call looks for the next one before it sleeps.
     fn next(&mut self) -> io::Result<Option<usize>>
         ensures size { IfOk result (λ found. IfSome found (λ count. count ≤ 2048)) }
         ensures name { self.new.name ≡ self.old.name }
@@ -168,7 +168,7 @@ impl<'a, R: Net + time::Clock> UdpLink<'a, R> {
         Ok(found)
     }
 
-    // Ends a batch: the socket is empty after a datagram, so the followers may send what came.
+    // Ends a batch of datagrams: the socket is empty after a datagram, so the links that follow this one may forward the batch.
     fn finish_batch(&mut self)
         ensures name { self.new.name ≡ self.old.name }
         ensures faults { self.new.faults ≡ self.old.faults }
@@ -187,19 +187,20 @@ impl<'a, R: Net + time::Clock> UdpLink<'a, R> {
         self.table.expect(self.name, expected);
     }
 
-    // The time of the clock; zero if it can't be read.
+    // The time of the clock, or zero if the clock can't be read.
     fn now(&self) -> Duration {
         self.system.monotonic().unwrap_or(Duration::ZERO)
     }
 
-    // How long this link sleeps by the clock if it follows a busy link: what that link receives meanwhile is forwarded together. `None` if that link
-    // isn't busy, or should have received by now.
+    // How long this link sleeps if it follows a busy link. What the busy link receives during the sleep is forwarded together. `None` if this
+    // link follows no busy link, or if that link should have received by now.
     fn pause(&self) -> Option<Duration> {
         let pause = self.table.next_turn(self.name)?.checked_sub(self.now())?;
         (pause < Duration::from_micros(LONGEST_PAUSE)).then_some(pause)
     }
 
-    // Makes the link follow the link that received the packet it sent last. Returns whether it sent so much that more may have to be sent.
+    // Makes this link follow the link that received the last packet sent by this link. Returns whether this link sent at least `MUCH` packets,
+    // so that more may wait to be sent.
     fn finish_turn(&mut self) -> bool
         ensures name { self.new.name ≡ self.old.name }
         ensures faults { self.new.faults ≡ self.old.faults }
@@ -232,8 +233,8 @@ impl<'a, R: Net + time::Clock> UdpLink<'a, R> {
         Ok(())
     }
 
-    // Passes the bytes to the system. An error of an earlier datagram may be reported instead of sending this one, so this one is tried again
-    // once. After that, or if the system's buffer stays full, it is lost.
+    // Passes the datagram to the system. The system may report an error of an earlier datagram instead of sending this one, so this one is
+    // tried once more. If that fails too, or if the system's buffer stays full, the datagram is lost.
     fn post(&mut self, bytes: &[u8]) -> io::Result<()>
         ensures name { self.new.name ≡ self.old.name }
         ensures faults { self.new.faults ≡ self.old.faults }
@@ -262,7 +263,7 @@ impl<'a, R: Net + time::Clock> UdpLink<'a, R> {
         Ok(())
     }
 
-    // Sends once.
+    // Tries once to send the bytes as a datagram.
     fn hand_over(&self, bytes: &[u8]) -> io::Result<usize> {
         if self.is_connected {
             self.socket.send(bytes)
@@ -272,7 +273,7 @@ impl<'a, R: Net + time::Clock> UdpLink<'a, R> {
     }
 }
 
-// Connects the socket to the peer. Returns whether it is connected; without a route it isn't.
+// Connects the socket to the peer. Returns whether it is connected. Without a route to the peer, the socket isn't connected.
 fn connects(socket: &UdpSocket, peer: SocketAddr) -> io::Result<bool> {
     match socket.connect(peer) {
         Ok(()) => Ok(true),
@@ -283,8 +284,8 @@ fn connects(socket: &UdpSocket, peer: SocketAddr) -> io::Result<bool> {
     }
 }
 
-// Receives the peer's next datagram into the start of `buffer`, and returns its length; `None` if none is there now. Skips datagrams from
-// other addresses, which came before the socket was connected, and errors of earlier datagrams.
+// Receives the peer's next datagram into the start of `buffer`, and returns its length, or `None` if no datagram is there now. Skips datagrams
+// from other addresses that arrived before the socket was connected, and skips errors of earlier datagrams.
 fn take(socket: &UdpSocket, peer: SocketAddr, buffer: &mut [u8]) -> io::Result<Option<usize>>
     ensures { IfOk result (λ found. IfSome found (λ count. count ≤ length buffer.new)) }
 {
@@ -316,8 +317,8 @@ impl<'a, R: Net + time::Clock> Link for UdpLink<'a, R> {
 
     ghost faults = { λ s. s.faults };
 
-    /// If there is no datagram from the peer, this sleeps until one comes or another link wakes it, for at most 5 milliseconds. If the last receive
-    /// returned no datagram, this sleeps before it looks.
+    /// If there is no datagram from the peer, this call sleeps for at most 5 milliseconds, until a datagram comes or another link wakes it. If
+    /// the last receive returned no datagram, it sleeps before it looks for one.
     fn receive(&mut self, buf: &mut PacketBuf) -> Result<bool, Failed> {
         match self.next() {
             Ok(Some(count)) => {
@@ -332,7 +333,8 @@ impl<'a, R: Net + time::Clock> Link for UdpLink<'a, R> {
         }
     }
 
-    /// If the system's buffer is full, this waits up to about 100 milliseconds. The datagram is lost after that, or if the network doesn't take it.
+    /// If the system's buffer is full, this call waits for up to about 100 milliseconds. The datagram is lost if the buffer stays full, or if the
+    /// network doesn't accept it.
     fn send(&mut self, packet: &PacketBuf) -> Result<(), Failed> {
         match self.post(packet.bytes()) {
             Ok(()) => Ok(()),
@@ -357,8 +359,8 @@ pub struct UdpPorts<'a, R> {
 }
 
 impl<'a, R: Net + time::Clock + Sync> UdpPorts<'a, R> {
-    /// Ports of which none is bound yet. `system` opens the sockets, and they wait by its clock. The links wake each other through `table`,
-    /// which must serve these ports alone. Each link takes three file descriptors.
+    /// Ports of which none is bound yet. `system` opens the sockets, and its clock is used for waiting. The links wake each other through
+    /// `table`, which no other ports may use. Each link takes three file descriptors.
     pub fn new(system: &'a R, alloc: Global, table: &'a WakeTable) -> Self
         ensures bound { ⟦<UdpPorts<'a, R> as Ports>⟧.bound result ≡ 0 }
         ensures back_count { ⟦<UdpPorts<'a, R> as Ports>⟧.back_count result ≡ 0 }

@@ -1,32 +1,34 @@
-// Which links wake which. A packet that one link received is sent by others. So a link follows the link that received the packet it sent last: that link
-// wakes it after receiving more or, while busy, lets it sleep until the time by which it expects to have received more. A wrong or missing entry only
-// costs time, because each sleep ends by itself.
+// The table of links, from which a link finds the other links that it wakes. A packet that one link receives is sent by other links. Link A
+// follows link B if B received the packet that A sent last. The followed link wakes its followers after it has received more packets. While it
+// is busy, its followers sleep until the time by which it expects to have received more. A wrong or missing entry only costs time, because each
+// sleep ends by itself.
 use mio::Waker;
 use std::alloc::{AllocError, Global};
 use std::sync::OnceLock;
 use std::sync::atomic::{AtomicU8, AtomicU64, Ordering};
 use std::time::Duration;
 
-/// The number of links that others can wake. A link that is bound after these isn't woken.
+/// The number of links that can be woken. Links that are bound later can't be woken.
 const LINKS: usize = 64;
 
-/// The offset in microseconds between links with consecutive numbers, so that they don't wait for the room's lock together.
+/// The difference, in microseconds, between the moments at which links with consecutive numbers continue. The difference keeps them from
+/// waiting for the room's lock at the same time.
 const STEP: u64 = 40;
 
-/// The number of different offsets; then they start again from 0.
+/// The number of different delays: link n is delayed by `n % STEPS * STEP` microseconds.
 const STEPS: u64 = 4;
 
 /// A number that no link has.
 const NONE: u64 = u64::MAX;
 
-// The states of a link: it runs, it sleeps until its waker is called, or another link woke it since its last sleep.
+// The states of a link: it runs, it sleeps until its waker is called, or another link has woken it since its last sleep.
 const RUNS: u8 = 0;
 
 const SLEEPS: u8 = 1;
 
 const WOKEN: u8 = 2;
 
-/// What other links know of a link.
+/// The data about a link that other links use.
 #[derive(Drop)]
 struct Entry {
     waker: OnceLock<Waker>,
@@ -60,7 +62,7 @@ impl Entry {
     }
 }
 
-/// Shared by links that wake each other. The number of a link is its place in the order of binding.
+/// A table that is shared by links that wake each other. Links are numbered from 0 in the order in which they are bound.
 #[derive(Drop)]
 pub struct WakeTable {
     entries: Vec<Entry>,
@@ -83,7 +85,7 @@ impl WakeTable {
         }
     }
 
-    /// Wakes the followers of link `number` after it received datagrams. `tail` is the `tail_of` the last one.
+    /// Wakes the links that follow link `number`, after it has received datagrams. `tail` is `tail_of` the last datagram.
     pub fn wake_followers(&self, number: u64, tail: u64) {
         let Some(entry) = self.entries.get(number as usize) else {
             return;
@@ -96,7 +98,7 @@ impl WakeTable {
         }
     }
 
-    /// Notes that link `number` is busy and expects to have received more by this time of the clock. Zero: it isn't busy any more.
+    /// Notes that link `number` is busy and expects to have received more by this time of the clock. Zero means that it isn't busy any more.
     pub fn expect(&self, number: u64, moment: Duration) {
         if let Some(entry) = self.entries.get(number as usize) {
             let micros = u64::try_from(moment.as_micros()).unwrap_or(0);
@@ -104,8 +106,8 @@ impl WakeTable {
         }
     }
 
-    /// The time of the clock at which link `number` should continue: some microseconds after the busy link that it follows expects to have received more.
-    /// `None` if it follows no busy link.
+    /// The time of the clock at which link `number` should continue, or `None` if it follows no busy link. The returned time is some
+    /// microseconds after the time by which the followed link expects to have received more.
     pub fn next_turn(&self, number: u64) -> Option<Duration> {
         let followed = self
             .entries
@@ -123,7 +125,7 @@ impl WakeTable {
         Some(Duration::from_micros(expected.saturating_add(number % STEPS * STEP)))
     }
 
-    /// Makes link `number` a follower of the link that received the packet it has just sent. `tail` is the packet's `tail_of`.
+    /// Makes link `number` follow the link that received the last packet sent by link `number`. `tail` is `tail_of` that packet.
     pub fn follow(&self, number: u64, tail: u64) {
         let Some(entry) = self.entries.get(number as usize) else {
             return;
@@ -136,7 +138,7 @@ impl WakeTable {
         }
     }
 
-    /// Notes that link `number` is about to sleep. Returns whether none woke it since `end_sleep`.
+    /// Notes that link `number` is about to sleep. Returns true if no link has woken it since `end_sleep`.
     pub fn begin_sleep(&self, number: u64) -> bool {
         match self.entries.get(number as usize) {
             Some(entry) => entry.state.swap(SLEEPS, Ordering::SeqCst) != WOKEN,
@@ -152,8 +154,8 @@ impl WakeTable {
     }
 }
 
-/// The last eight bytes of a datagram as a number; 0 if it is shorter. A forwarded packet keeps its payload, so these bytes are the same where it is
-/// received and where it is sent.
+/// The last eight bytes of a datagram as a number, or 0 if the datagram is shorter. A forwarded packet keeps its payload, so it has the same
+/// tail when it is received and when it is sent.
 pub fn tail_of(bytes: &[u8]) -> u64 {
     match bytes.split_last_chunk::<8>() {
         Some((_, last)) => u64::from_le_bytes(*last),

@@ -1,4 +1,4 @@
--- If nothing outside failed, what follows from the clauses of each command.
+-- The consequences of each command's clauses if nothing outside failed.
 use Rattle.std.proofs.Common.{◌≡◌, ◌⊎◌, inl, inr, ⊎_elim, ℕ, ◌+◌, ◌&&◌, Bool, true, List, [], ◌∷◌, ◌++◌, refl, sym, ap, ◌∙◌, subst, arith, append-nil, Option, Some, None}
 use Rattle.std.specs.Prelude.{IfSome}
 use Rattle.std.specs.Io.KnownBytes.{Appends, IsAtEnd}
@@ -8,8 +8,8 @@ use Rattle.sfu_base.specs.Links.{Traffic}
 use Rattle.sfu_base.specs.declared.call.Call.{Call}
 use Rattle.turn_lock.specs.declared.history.Entry as turn
 use Rattle.script_texts.specs.WholeLines.{fault_line}
-use Rattle.port_config.specs.Reading.{ReadsNoSetup, read_due, read_part}
-use Rattle.port_config.specs.Script.{configuration_of}
+use Rattle.port_config.specs.ports.Reading.{ReadsNoSetup, read_due, read_part}
+use Rattle.port_config.specs.ports.Script.{configuration_of}
 use Rattle.sfu_script.specs.declared.ports.PortLine.{PortLine}
 use Rattle.sfu_serve.specs.declared.ends.SessionEnd.{SessionEnd}
 use Rattle.sfu_serve.specs.declared.ends.SessionEnd.TheVariants.{AllTurns, LinkFault, Worn}
@@ -67,7 +67,7 @@ by_ending Outside status e = inr (inr (inl e))
 by_ending Complaint status e = inr (inr (inr (inr (inl e))))
 by_ending Obu status e = inr (inr (inr (inr (inr e))))
 
--- its status says nothing of the outside, whatever the source tells
+-- its status says nothing about the outside, whatever the source reports
 inside : (whole part : List ℕ → Due) (x : Exchange) (status : ℕ) → Says whole part x status → ¬ (Rose x.reads x.reads') → ¬ (Rose x.writes x.writes') → IsInside status
 inside whole part x status s calm quiet = by s.only
   where
@@ -136,7 +136,7 @@ read_nothing None text x status (inr (inl five)) h = absurd (let zero = h.0.0 in
 read_nothing None text x status (inr (inr six)) h = absurd (let zero = h.0.0 in omega arith)
 read_nothing (Some line) text x status only h = h
 
--- a configuration was read, and all was written
+-- a configuration was read, and all texts were written
 wrote_all : (fault : Option ℕ) (text : List ℕ) (x : Exchange) (status : ℕ) → fault ≡ None → status ≡ 0 → IsAtEnd x.left' → Appends x.written x.written' text
     → EndsAs (outside_end fault_line fault) x status × Appends x.written x.written' (unless_fault fault text ++ last_text (outside_end fault_line fault))
 wrote_all None text x status none zero end wrote = ((zero, end), subst (λ (t : List ℕ). Appends x.written x.written' t) (sym (append-nil text)) wrote)

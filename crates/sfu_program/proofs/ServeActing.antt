@@ -48,11 +48,11 @@ rose_then a b c le r = omega arith
 
 -- ---- the first fault
 
--- at status 6 none failed
+-- with status 6 none failed
 starved_once : {f f' : ℕ} → f' ≡ f → FirstFault 0 0 f f' 6
 starved_once {f} {f'} kept = first_fault_by 0 0 f f' (Err (Halted halt.Starved)) (record { reading = refl; writing = kept })
 
--- at status 7 no write failed
+-- with status 7 no write failed
 at_seven : {f f' : ℕ} → f' ≡ f → FirstFault 0 0 f f' 7
 at_seven kept = record {
   none = λ e. absurd (neither e);
@@ -76,7 +76,7 @@ same_count limit history number [] (e ∷ es) all = absurd all
 same_count limit history number (j ∷ js) [] all = absurd all
 same_count limit history number (j ∷ js) (e ∷ es) all = ap (λ (n : ℕ). suc n) (same_count limit history (number + 1) js es all.1)
 
--- a session that made too few turns has a link with faults
+-- a session that didn't make all its turns has a link with faults
 link_failed : (after limit : ℕ) (rest : Doing) (turns : ℕ) (end : SessionEnd) → MeetsEnd 0 after 0 limit rest turns end → is_all end ≡ false → 0 < after
 link_failed after limit rest turns AllTurns h few = absurd (cc few)
 link_failed after limit Over turns (LinkFault turn) h few = absurd h
@@ -219,7 +219,7 @@ module _ {L : Type 0} (told : L → Option Traffic) (faults name : L → ℕ) wh
       by_failure (inl u) = inl (u.0, subst (λ (text : List ℕ). Appends w w' text) (append-nil (first_text calls)) (appends_both w w1 w' (first_text calls) [] first u.1))
       by_failure (inr d) = inr (d.0, d.1, d.2, appends_both w w1 w' (first_text calls) (ends_text 1 (ends_of d.0)) first d.3)
 
--- ---- what came back of sessions
+-- ---- the ports that the sessions returned
 
 module _ {L : Type 0} (told : L → Option Traffic) (faults : L → ℕ) where
   -- each job's port was released
@@ -236,7 +236,7 @@ module _ {L : Type 0} (told : L → Option Traffic) (faults : L → ℕ) where
   pub all_unworn : (limit : ℕ) (calls : List Call) (jobs : List Before) (ended : List (Ended L)) → HaveServed limit calls jobs (afters told faults ended) → AreUnworn (ends_of ended)
   all_unworn limit calls jobs ended served = subst AreUnworn (ends_are ended) served.unworn
 
--- ---- nothing was written before
+-- ---- no text was written before
 
 pub appends_behind : (w w1 w' : Option (List ℕ)) (text : List ℕ) → Appends w w1 [] → Appends w1 w' text → Appends w w' text
 appends_behind w w1 w' text none more = appends_both w w1 w' [] text none more

@@ -64,7 +64,7 @@ module _ {L : Type 0} where
   no_fault_last faults [] link none = (tt, none.0)
   no_fault_last faults (l ∷ ls) link none = let rest = no_fault_last faults ls link none.1 in ((none.0, rest.0), rest.1)
 
-  -- the count is unchanged if none of them has
+  -- the count is unchanged if none of the links has faults
   pub calm_more : (faults : L → ℕ) (links : List L) (link : L) (first before now : ℕ) → (NoFault faults links → before ≡ first) → CountsBack (faults link) before now → NoFault faults (links ++ link ∷ []) → now ≡ first
   calm_more faults links link first before now calm counts none = let both = no_fault_last faults links link none in counts.stays both.1 ∙ calm both.0
 

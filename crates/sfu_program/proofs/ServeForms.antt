@@ -1,8 +1,7 @@
--- The words of `serve` are no other command.
+-- The words of `serve` aren't those of another command.
 use Rattle.std.proofs.Common.{◌≡◌, ◌⊎◌, inl, inr, ℕ, List, [], ◌∷◌, length, ap, sym, ◌∙◌, ◌<◌, arith}
 use Rattle.sfu_commands.specs.declared.words.Command.{Command}
 use Rattle.sfu_commands.specs.declared.words.Command.TheVariants.{Run, Convert, Simulcast, Help, Check, Record, Trial, Cascade}
-use Rattle.sfu_commands.specs.Run.{IsRun}
 use Rattle.sfu_commands.specs.Check.{IsCheck}
 use Rattle.sfu_commands.specs.Record.{IsRecord}
 use Rattle.sfu_commands.specs.Convert.{IsConvert}
@@ -11,7 +10,7 @@ use Rattle.sfu_commands.specs.StreamWords.{IsCascade, IsTrial}
 use Rattle.std.specs.Prelude.{decimal}
 use Rattle.std.proofs.lemmas.Fmt.{decimal_injective}
 use Rattle.stream_maker.specs.Stream.{Stream}
-use Rattle.sfu_commands.specs.Words.{IsForm, IsSimulcast, Says}
+use Rattle.sfu_commands.specs.Words.{IsForm, IsRun, IsSimulcast, Says}
 use Rattle.sfu_together.specs.Together.{IsTogether}
 use Rattle.sfu_program.specs.ServeWords.{IsServe}
 use Rattle.sfu_program.specs.Forms.{IsCommand, IsEnd, IsServing}
@@ -70,13 +69,13 @@ one_number words m n a b =
     let same : decimal m ≡ decimal n = (let e = sym a.words_are ∙ b.words_are in cc) in
     decimal_injective m n (let small = a.few_turns in omega arith) (let small = b.few_turns in omega arith) same
 
--- words that are none of the three are no command
+-- words that are none of the three aren't a command
 pub no_command : (words : List (List ℕ)) → (IsTogether words → ⊥) → (IsServing words → ⊥) → (IsForm words → ⊥) → IsCommand words → ⊥
 no_command words t s f (inl is) = f is
 no_command words t s f (inr (inl is)) = t is
 no_command words t s f (inr (inr is)) = s is
 
--- the statuses of `serve` are among the program's, without that of words that are no command
+-- the statuses of `serve` are among the program's, without the one for words that aren't a command
 pub is_end : (status : ℕ) → (status ≡ 0) ⊎ (status ≡ 3) ⊎ (status ≡ 4) ⊎ (status ≡ 5) ⊎ (status ≡ 6) ⊎ (status ≡ 7) → IsEnd status
 is_end status (inl a) = inl (inl a)
 is_end status (inr (inl a)) = inl (inr (inr (inl a)))

@@ -11,13 +11,13 @@ and_later true = refl
 and_later false = refl
 
 module _ {L : Type 0} where
-  -- each of them found the lock unworn
+  -- none of them found all tickets of the lock drawn
   pub unworn_at : (es : List (Ended L)) (i : ℕ) (d : Ended L) → i < length es → AreUnworn (ends_of es) → IsUnworn (get_or es i d).end
   unworn_at [] i d lt all = absurd (omega arith)
   unworn_at (e ∷ es) zero d lt all = all.0
   unworn_at (e ∷ es) (suc i) d lt all = unworn_at es i d (omega arith) all.1
 
-  -- one of them made too few turns
+  -- one of them didn't make all its turns
   pub not_all : (es : List (Ended L)) (i : ℕ) (d : Ended L) → i < length es → is_all (get_or es i d).end ≡ false → all_made (ends_of es) ≡ false
   not_all [] i d lt few = absurd (omega arith)
   not_all (e ∷ es) zero d lt few = ap (λ (b : Bool). b && all_made (ends_of es)) few

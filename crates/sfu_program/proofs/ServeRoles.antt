@@ -9,7 +9,7 @@ use Rattle.sfu_script.specs.declared.ports.PortRole.TheVariants as line
 use Rattle.sfu_script.specs.Ports.{is_apart}
 use Rattle.sfu_serve.specs.declared.run.Job.{Job}
 use Rattle.sfu_serve.specs.Runs.{CanBe}
-use Rattle.port_config.specs.Script.{all_apart}
+use Rattle.port_config.specs.ports.Script.{all_apart}
 use Rattle.sfu_program.specs.ServePorts.{AreFresh, befores, role_of}
 
 first_true : (a b : Bool) → (a && b) ≡ true → a ≡ true
@@ -40,7 +40,7 @@ can_be (line.Rtx subscriber ssrc rtx_ssrc payload_type) apart = (
 )
 
 module _ {L : Type 0} (told : L → Option Traffic) (faults : L → ℕ) where
-  -- that of each job whose port was bound for a line of a configuration
+  -- the role of each job whose port was bound for a line of a configuration is possible
   pub can_all : (lines : List PortLine) (jobs : List (Job L)) → AreFresh lines (befores told faults jobs) → IsTrue (all_apart lines)
       → (i : ℕ) (d : Job L) → i < length jobs → CanBe (get_or jobs i d).role
   can_all lines [] fresh apart i d low = absurd (omega (arith, low))

@@ -1,4 +1,4 @@
--- Sessions that ran after the first calls: none found the lock worn, since the history is shorter than the number of tickets.
+-- Sessions that ran after the first calls. None found all tickets drawn, since the history is shorter than the number of tickets.
 use Rattle.std.proofs.Common.{◌≡◌, ◌+◌, ◌*◌, ◌<◌, ◌≤◌, ◌^◌, ℕ, Bool, false, List, [], ◌∷◌, ◌++◌, length, map, ap, sym, subst, ◌∙◌, arith, length-append}
 use Rattle.std.proofs.Math.Nat.{mul-le-mul_left}
 use Rattle.std.proofs.lemmas.List.{length-map}
@@ -63,7 +63,7 @@ sessions_unworn limit found history number (j ∷ js) (e ∷ es) low all =
       (one.1, rest.1),
     )
 
--- the most calls that this many sessions of this many turns make
+-- the greatest number of calls that these sessions make in these turns
 few_entries : (jobs limit : ℕ) → jobs ≤ 64 → limit ≤ 1000000000000 → jobs * (10000 * limit) ≤ 640000000000000000
 few_entries jobs limit few short = let each : 10000 * limit ≤ 10000000000000000 = omega arith in let all = mul-le-mul_left jobs each in omega arith
 

@@ -1,4 +1,4 @@
--- The turns of seat 0 before any other seat is there: its history is its own calls.
+-- The turns of seat 0 before there is any other seat: its history has only its own calls.
 use Rattle.std.proofs.Common.{◌≡◌, ◌^◌, ℕ, Bool, false, cond, List, [], ◌∷◌, ◌++◌, map, refl, sym, ap, subst, ◌∙◌, arith, eq-eqb, append-nil, append_assoc}
 use Rattle.std.proofs.lemmas.List.{append_cancel_right, map-append}
 use Rattle.atomic_table.specs.Seated.{TableId}
@@ -8,10 +8,10 @@ use Rattle.turn_lock.specs.declared.history.Entry.{Entry}
 use Rattle.turn_lock.specs.History.{AllBelow, entry, own_of}
 use Rattle.turn_lock.specs.Known.{FindsWorn, Fits, Known, MakesTurn}
 use Rattle.sfu_serve.specs.History.{entries_of}
-use Rattle.sfu_commands.specs.Script.{entry_of, reply_line, run_text}
+use Rattle.script_run.specs.Run.{entry_of, reply_line, run_text}
 use Rattle.sfu_program.specs.ServeOpening.{HasMade, first_text, made_first, next_line}
 
--- a history of seat 0 alone is that seat's own list
+-- a history with only seat 0 is that seat's own list
 own_whole : (h : List (Entry Call)) → AllBelow 1 h → own_of 0 h ≡ h
 own_whole [] low = refl
 own_whole (e ∷ es) low =
@@ -61,7 +61,7 @@ module _ (lock : TableId) (calls : List Call) (k l : Known Call) (fits : Fits k)
         let same : turn.1.0 ≡ made_first calls = append_cancel_right turn.1.0 (made_first calls) (entry k.number call starved ∷ []) (sym turn.1.2 ∙ seen_made) in
         subst gives same turn.1.3
 
--- the seat found the lock worn
+-- the seat found all tickets of the lock drawn
 pub worn_made : (lock : TableId) (calls : List Call) (k l : Known Call) → HasMade lock calls k → FindsWorn k l → HasMade lock calls l × (l.found ≡ 2 ^ 63)
 worn_made lock calls k l made worn = (
   record {

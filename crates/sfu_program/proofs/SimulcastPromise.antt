@@ -11,7 +11,7 @@ use Rattle.bundle_lines.specs.Lines.{IsBundleLine}
 use Rattle.bundle_lines.specs.declared.line.BundleLine.{BundleLine}
 use Rattle.bundle_lines.specs.declared.line.BundleLine.TheVariants as line
 use Rattle.bundle_lines.proofs.BundleLaws.{line_found}
-use Rattle.sfu_commands.proofs.Histories.{line_is_value}
+use Rattle.script_run.proofs.Histories.{line_is_value}
 use Rattle.simulcast.specs.Bundles.{Simulcast, nothing_made}
 use Rattle.simulcast.specs.Kept.{IsKept}
 use Rattle.simulcast.proofs.Keeping.{calls_keep}
@@ -19,7 +19,7 @@ use Rattle.sfu_program.specs.SimulcastScript.{BundleScript, bundle_script, bundl
 use Rattle.sfu_program.specs.SimulcastTexts.{line_told}
 use Rattle.sfu_program.specs.SimulcastPromise.{AreBundlesServed, after_lines, left_by}
 
--- what holds for each line that the code can receive
+-- facts about each line that the code can receive
 abbrev IsLineValue : BundleLine → Type 0
 IsLineValue (line.Room call) = IsValue call
 IsLineValue (line.Bundle bundle id ssrc first legs count) = ssrc < 2 ^ 32

@@ -1,4 +1,5 @@
--- What is due for the lines of a script with bundles, one after another, is the replies to them, and then the fault of the first that is no call.
+-- The text that is due for the lines of a script with bundles, one after another,
+-- is the replies to them, and then the fault of the first line that isn't a call.
 use Rattle.std.proofs.Common.{◌≡◌, inl, inr, ℕ, ◌+◌, Bool, true, false, cond, leb, List, [], ◌∷◌, map, refl, sym, ap, ◌∙◌, arith, Option, Some, None}
 use Rattle.sfu_driver.specs.declared.halt.Ending.TheVariants.{Outside}
 use Rattle.sfu_driver.specs.Drive.{outside_end}
@@ -13,7 +14,7 @@ use Rattle.sfu_driver.proofs.Cutting.{at}
 use Rattle.sfu_driver.proofs.LineInputs.{due_is_lines, judged_is_lines}
 use Rattle.sfu_script.specs.Skipped.{is_skipped}
 use Rattle.script_texts.specs.WholeLines.{fault_line}
-use Rattle.sfu_commands.proofs.Alike.{IsDue}
+use Rattle.script_records.proofs.Alike.{IsDue}
 use Rattle.bundle_lines.specs.ReadLines.{line_of}
 use Rattle.bundle_lines.specs.declared.line.BundleLine.{BundleLine}
 use Rattle.simulcast.specs.Bundles.{Simulcast, nothing_made}
@@ -21,7 +22,7 @@ use Rattle.sfu_program.specs.SimulcastScript.{BundleScript, bundle_script, scrip
 use Rattle.sfu_program.specs.SimulcastTexts.{line_told}
 use Rattle.sfu_program.specs.Simulcast.{IsSimulcastStatus, bundle_reply_to, bundle_served, due_for_script, simulcast_due, simulcast_part}
 
--- how the lines of a script are served
+-- the replies to the lines of a script
 abbrev pub bundle_rule : Rule Simulcast
 bundle_rule = rule_of line_scan line_scan_end bundle_served fault_line (λ _. [])
 

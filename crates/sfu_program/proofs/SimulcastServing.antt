@@ -1,4 +1,4 @@
--- What a server does with the results of its bundles.
+-- What a server does with the results of its bundles' calls.
 use Rattle.std.proofs.Common.{◌≡◌, inl, inr, ℕ, ◌≤◌, Bool, true, false, List, [], ◌∷◌, ◌++◌, length, refl, sym, ap, subst, ◌∙◌, Result, Ok, Err, arith, length-append}
 use Rattle.std.specs.Prelude.{OnErr, OnOk}
 use Rattle.sfu_base.specs.Answer.{answer_of, is_starved}
@@ -10,7 +10,7 @@ use Rattle.sfu_driver.specs.declared.halt.Halt.{Halt}
 use Rattle.sfu_driver.specs.declared.halt.Halt.TheVariants.{Ended, Starved}
 use Rattle.sfu_driver.specs.Drive.{Judges}
 use Rattle.sfu_driver.specs.Outcome.{writes}
-use Rattle.sfu_commands.specs.Run.{untold}
+use Rattle.script_run.specs.Run.{untold}
 use Rattle.room_core.specs.declared.recorder.KeepNone.{KeepNone}
 use Rattle.simulcast.specs.declared.bundles.Bundles.{Bundles}
 use Rattle.simulcast.specs.declared.fault.BundleFault.{BundleFault}
@@ -22,7 +22,7 @@ use Rattle.sfu_program.specs.declared.bundling.server.BundleServer.{BundleServer
 use Rattle.sfu_program.specs.SimulcastServing.{ServesLine}
 use Rattle.sfu_program.specs.SimulcastTexts.{answered_text, fault_text, told}
 
--- a text was appended to the output so far, or memory ran out and nothing was
+-- a text was appended to the output so far; or memory ran out, and nothing was appended
 pub record IsPut (text ready ready' : List ℕ) (result : Result (Unit {0}) Halt) : Type 0 where
   pub ok : OnOk result (ready' ≡ ready ++ (text ++ 10 ∷ []))
   pub err : OnErr result (ready' ≡ ready)
@@ -38,7 +38,7 @@ grown : (text ready ready' : List ℕ) (result : Result (Unit {0}) Halt) → IsP
 grown text ready ready' (Ok x) put = let longer = ap length put.ok in let sum = length-append ready (text ++ 10 ∷ []) in omega (arith, longer, sum)
 grown text ready ready' (Err why) put = let same = ap length put.err in omega (arith, same)
 
--- the bundles had this result, and its text was appended
+-- the bundles' call had this result, and its text was appended
 module _ {A : Type 0} (call : Simulcast → Answered A) (text : A → List ℕ) (old new : BundleServer) (mid : Bundles KeepNone) (same : new.bundles ≡ mid) (ready ready' : List ℕ) where
   judged : (h : Simulcast) (came : Result A BundleFault) (result : Result (Unit {0}) Halt) → HasAnswered untold mid (call h) came → IsPut (answered_text text came) ready ready' result
       → Judges (λ (server : BundleServer) (h : Simulcast). StandsFor untold server.bundles h) (writes (told text (call h)).reply (told text (call h)).after) new ready ready' result
@@ -75,7 +75,7 @@ module _ {A : Type 0} (call : Simulcast → Answered A) (text : A → List ℕ) 
       → (why ≡ NoMemory → result ≡ Err Starved) → IsPut (fault_text why) ready ready' result → ServesLine (λ (h : Simulcast). told text (call h)) old new ready ready' result
   serves_err why result answers wants put = serves_line (Err why) result answers (λ e. wants (let other : Err why ≡ Err NoMemory = e in cc)) put
 
--- a call of the room
+-- a call on the room
 module _ (call : Call) (old new : BundleServer) (mid : Bundles KeepNone) (same : new.bundles ≡ mid) (ready ready' : List ℕ) (result : Result (Unit {0}) Halt) where
   pub serves_call : (reply : Reply) (bytes numbers : List ℕ) → Calls untold old.bundles mid 0 call bytes numbers (Ok reply) → (is_starved reply ≡ true → result ≡ Err Starved)
       → IsPut (answer_text (answer_of reply bytes numbers)) ready ready' result → ServesLine (λ (h : Simulcast). told answer_text (room_called call h)) old new ready ready' result

@@ -1,15 +1,14 @@
--- The words `together` are no other command.
+-- The words `together` aren't those of another command.
 use Rattle.std.proofs.Common.{◌≡◌, ◌⊎◌, inl, inr, ℕ, List, [], ◌∷◌, length, ap, sym, ◌∙◌, ◌<◌, arith}
 use Rattle.sfu_commands.specs.declared.words.Command.{Command}
 use Rattle.sfu_commands.specs.declared.words.Command.TheVariants.{Run, Convert, Simulcast, Help, Check, Record, Trial, Cascade}
-use Rattle.sfu_commands.specs.Run.{IsRun}
 use Rattle.sfu_commands.specs.Check.{IsCheck}
 use Rattle.sfu_commands.specs.Record.{IsRecord}
 use Rattle.sfu_commands.specs.Convert.{IsConvert}
 use Rattle.sfu_commands.specs.Help.{IsHelp}
 use Rattle.sfu_commands.specs.StreamWords.{IsCascade, IsTrial}
 use Rattle.stream_maker.specs.Stream.{Stream}
-use Rattle.sfu_commands.specs.Words.{IsForm, IsSimulcast, Says}
+use Rattle.sfu_commands.specs.Words.{IsForm, IsRun, IsSimulcast, Says}
 use Rattle.sfu_program.specs.Forms.{IsStatus}
 use Rattle.sfu_together.specs.Together.{IsTogether}
 
@@ -57,7 +56,7 @@ not_trial words s t is = clash 1 4 (ap length (sym t ∙ is.words_are)) (omega a
 pub not_cascade : (words : List (List ℕ)) (s : Stream) → IsTogether words → IsCascade words s → ⊥
 not_cascade words s t is = clash 1 4 (ap length (sym t ∙ is.words_are)) (omega arith)
 
--- the statuses of `together` are among the program's, without that of words that are no command
+-- the statuses of `together` are among the program's, without the one for words that aren't a command
 pub is_status : (status : ℕ) → (status ≡ 0) ⊎ (status ≡ 3) ⊎ (status ≡ 4) ⊎ (status ≡ 5) ⊎ (status ≡ 6) → IsStatus status
 is_status status (inl a) = inl a
 is_status status (inr (inl a)) = inr (inr (inl a))

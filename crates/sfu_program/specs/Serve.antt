@@ -1,4 +1,4 @@
--- The command `serve`: the calls of the configuration are made by seat 0, its ports are bound, and each port has a session of its own.
+-- The command `serve`: seat 0 makes the calls of the configuration, the ports are bound, and each port has its own session.
 use Rattle.std.specs.Prelude.{◌≡◌, ◌⊎◌, ◌+◌, ℕ, true, false, List, [], ◌++◌, length, map, Option, None}
 use Rattle.std.specs.Io.KnownBytes.{Appends, Consumes, IsAtEnd}
 use Rattle.sfu_base.specs.Faults.{Rose}
@@ -18,16 +18,16 @@ use Rattle.sfu_driver.specs.Statuses.{FirstFault}
 use Rattle.sfu_program.specs.ServeEnds.{AreUnworn, all_made, ends_of, ends_text}
 use Rattle.sfu_program.specs.ServeOpening.{first_text, made_first}
 use Rattle.sfu_program.specs.ServePorts.{AreFresh, AreNamedFrom, PortsSeen, WasUnbound, after_backs}
-use Rattle.port_config.specs.Reading.{ReadsNoSetup}
+use Rattle.port_config.specs.ports.Reading.{ReadsNoSetup}
 use Rattle.sfu_script.specs.declared.ports.PortLine.{PortLine}
-use Rattle.port_config.specs.Script.{configuration_of}
+use Rattle.port_config.specs.ports.Script.{configuration_of}
 
--- sessions that ended: how, and the traffic and faults of their links
+-- the sessions that ended: how they ended, and the traffic and faults of their links
 abbrev pub afters : {L : Type 0} → (L → Option Traffic) → (L → ℕ) → List (Ended L) → List After
 afters told faults ended = map (λ session. job_after session.end (told session.link) (faults session.link)) ended
 
--- There is one history that begins with these calls by seat 0. In it each job had its session, by the seat with the job's number, counted from 1. No
--- other seat made a call after those of seat 0, and no session found all tickets of the lock drawn.
+-- There is one history that begins with these calls by seat 0. In it each job had its session, by the seat with the job's number,
+-- counted from 1. No other seat made a call after the calls of seat 0. No session found that all tickets of the lock were drawn.
 pub record HaveServed (limit : ℕ) (calls : List Call) (jobs : List Before) (ended : List After) : Type 0 where
   pub history : List (turn.Entry Call)
   pub added : List (turn.Entry Call)
@@ -64,46 +64,46 @@ pub record Ends {L : Type 0} (told : L → Option Traffic) (faults name : L → 
   -- 0: each session made all its turns, and a line for each was written
   pub done : status ≡ 0 → (ended : List (Ended L)) × HasServed told faults name limit calls lines old new ended × (all_made (ends_of ended) ≡ true)
       × Appends written written' (ends_text 1 (ends_of ended))
-  -- 4: the sink failed in these lines
+  -- 4: the sink failed while these lines were written
   pub sink : status ≡ 4 → Rose writes writes'
   pub unwritten : status ≡ 4 → (ended : List (Ended L)) × HasServed told faults name limit calls lines old new ended
       × WritesPart written written' (ends_text 1 (ends_of ended))
-  -- 6: memory ran out, and nothing was written; no bind failed, and if a session's link failed, all ports were released
+  -- 6: memory ran out, and nothing was written; no bind failed; if a session's link failed, all ports were released
   pub memory : status ≡ 6 → Appends written written' [] × Starved told faults name limit calls lines old new
-  -- 7: a port wasn't bound, so no session started; or the link of a session failed, and the lines were written
+  -- 7: a port wasn't bound, so no session started; or a session's link failed, and the lines were written
   pub ports : status ≡ 7 → Rose old.faults new.faults
   pub failed : status ≡ 7 → (WasUnbound told faults name lines old new × Appends written written' [])
       ⊎ ((ended : List (Ended L)) × HasServed told faults name limit calls lines old new ended × (all_made (ends_of ended) ≡ false)
       × Appends written written' (ends_text 1 (ends_of ended)))
   pub only : (status ≡ 0) ⊎ (status ≡ 4) ⊎ (status ≡ 6) ⊎ (status ≡ 7)
-  -- no write failed but the one that ended the command, and at 0 no bind, receive or send
+  -- no write failed except the one that ended the command; with status 0 no bind, receive or send failed
   pub first_fault : FirstFault 0 0 writes writes' status
   pub calm : status ≡ 0 → new.faults ≡ old.faults
 
--- all that is due: the replies to the first calls, and then a line for each session
+-- all texts that are due: the replies to the first calls, and then a line for each session
 abbrev pub serve_text : {L : Type 0} → List Call → List (Ended L) → List ℕ
 serve_text calls ended = first_text calls ++ ends_text 1 (ends_of ended)
 
 -- The outcome for these calls and lines.
 pub record Acts {L : Type 0} (told : L → Option Traffic) (faults name : L → ℕ) (limit : ℕ) (calls : List Call) (lines : List PortLine)
     (written written' : Option (List ℕ)) (writes writes' : ℕ) (old new : PortsSeen L) (status : ℕ) : Type 0 where
-  -- 0: each session made all its turns, and all that is due was written
+  -- 0: each session made all its turns, and all texts that are due were written
   pub done : status ≡ 0 → (ended : List (Ended L)) × HasServed told faults name limit calls lines old new ended × (all_made (ends_of ended) ≡ true)
       × Appends written written' (serve_text calls ended)
-  -- 4: the sink failed; a part of what is due was written, but not all of it. Before the replies were written no port was bound
+  -- 4: the sink failed; a strict prefix of the texts that are due was written; no port was bound before the replies were written
   pub sink : status ≡ 4 → Rose writes writes'
   pub unwritten : status ≡ 4 → (WritesPart written written' (first_text calls) × (new ≡ old))
       ⊎ ((ended : List (Ended L)) × HasServed told faults name limit calls lines old new ended × WritesPart written written' (serve_text calls ended))
-  -- 6: memory ran out; nothing was written, or the replies to the first calls. No bind failed, and if a session's link failed, all ports were released
+  -- 6: memory ran out; nothing was written, or only the replies to the first calls; no bind failed; if a session's link failed, all ports were released
   pub memory : status ≡ 6 → (Appends written written' [] × (new ≡ old))
       ⊎ (Appends written written' (first_text calls) × Starved told faults name limit calls lines old new)
-  -- 7: a port wasn't bound, so no session started and only the replies were written; or the link of a session failed, and all was written
+  -- 7: a port wasn't bound, so no session started and only the replies were written; or a session's link failed, and all texts were written
   pub ports : status ≡ 7 → Rose old.faults new.faults
   pub failed : status ≡ 7 → (WasUnbound told faults name lines old new × Appends written written' (first_text calls))
       ⊎ ((ended : List (Ended L)) × HasServed told faults name limit calls lines old new ended × (all_made (ends_of ended) ≡ false)
       × Appends written written' (serve_text calls ended))
   pub only : (status ≡ 0) ⊎ (status ≡ 4) ⊎ (status ≡ 6) ⊎ (status ≡ 7)
-  -- no write failed but the one that ended the command, and at 0 no bind, receive or send
+  -- no write failed except the one that ended the command; with status 0 no bind, receive or send failed
   pub first_fault : FirstFault 0 0 writes writes' status
   pub calm : status ≡ 0 → new.faults ≡ old.faults
 
@@ -116,12 +116,12 @@ pub record ActsOn {L : Type 0} (told : L → Option Traffic) (faults name : L �
   pub whole : (configuration_of bytes).fault ≡ None
   pub acts : Acts told faults name limit (configuration_of bytes).setup.calls (configuration_of bytes).setup.ports written written' writes writes' old new status
 
--- What `serve` does. If the source fails (3), a line is outside the grammar (5) or memory runs out for the configuration (6), no call is made and no
--- port is bound.
+-- The effect of `serve`. No call is made and no port is bound if the source fails (3),
+-- a line is outside the grammar (5), or memory runs out for the configuration (6).
 pub record Serves {L : Type 0} (told : L → Option Traffic) (faults name : L → ℕ) (limit : ℕ) (x : Exchange) (old new : PortsSeen L) (status : ℕ) : Type 0 where
   pub came : (ReadsNoSetup x.left x.left' x.written x.written' x.reads x.reads' x.writes x.writes' status × (new ≡ old))
       ⊎ ActsOn told faults name limit x.left x.left' x.written x.written' x.writes x.writes' old new status
-  -- the first read or write that fails ends the command, and at 0 no bind, receive or send failed
+  -- the first read or write that fails ends the command; with status 0 no bind, receive or send failed
   pub first_fault : FirstFault x.reads x.reads' x.writes x.writes' status
   pub calm : status ≡ 0 → new.faults ≡ old.faults
   -- there is no other status

@@ -1,4 +1,4 @@
--- What is written after all sessions have ended, and the status.
+-- The text that is written after all sessions have ended, and the status.
 use Rattle.std.specs.Prelude.{◌≡◌, ◌⊎◌, ℕ, true, false, List, [], Option}
 use Rattle.std.specs.Io.KnownBytes.{Appends}
 use Rattle.sfu_base.specs.Faults.{Rose}

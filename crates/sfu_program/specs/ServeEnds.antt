@@ -5,7 +5,7 @@ use Rattle.sfu_serve.specs.declared.ends.SessionEnd.{SessionEnd}
 use Rattle.sfu_serve.specs.declared.ends.SessionEnd.TheVariants.{AllTurns, LinkFault, Worn}
 use Rattle.sfu_serve.specs.declared.run.Ended.{Ended}
 
--- the turn in which a session's link failed, if it did
+-- the turn in which a session's link failed, if it failed
 abbrev pub fault_of : SessionEnd → Option ℕ
 fault_of AllTurns = None
 fault_of (LinkFault turn) = Some turn
@@ -20,7 +20,7 @@ abbrev pub ends_text : ℕ → List SessionEnd → List ℕ
 ends_text number [] = []
 ends_text number (end ∷ ends) = end_line number end ++ ends_text (number + 1) ends
 
--- how sessions ended
+-- the ends of these sessions
 abbrev pub ends_of : {L : Type 0} → List (Ended L) → List SessionEnd
 ends_of ended = map (λ session. session.end) ended
 
@@ -33,7 +33,7 @@ abbrev pub all_made : List SessionEnd → Bool
 all_made [] = true
 all_made (end ∷ ends) = is_all end && all_made ends
 
--- the session didn't find all tickets of the lock drawn
+-- the session didn't find that all tickets of the lock were drawn
 abbrev pub IsUnworn : SessionEnd → Type 0
 IsUnworn AllTurns = Unit {0}
 IsUnworn (LinkFault turn) = Unit {0}

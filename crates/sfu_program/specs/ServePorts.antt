@@ -1,4 +1,4 @@
--- Ports that are bound for sessions, and that are released. Own rule.
+-- Ports that are bound for sessions, and then released. Own rule.
 use Rattle.std.specs.Prelude.{◌≡◌, ◌⊎◌, ◌<◌, ◌+◌, ℕ, List, [], ◌∷◌, ◌++◌, length, map, take, Option}
 use Rattle.std.specs.Option.{option_map}
 use Rattle.sfu_base.specs.Faults.{raised}
@@ -21,7 +21,7 @@ role_of (line.Rtx subscriber ssrc rtx_ssrc payload_type) = Rtx subscriber ssrc (
 
 -- ---- ports that are bound
 
--- The port of a job was just bound for this line: it has no faults yet and, if its traffic is known, no traffic.
+-- The port of a job was just bound for this line. It has no faults yet and, if contracts see its traffic, no traffic.
 pub record IsFresh (line : PortLine) (job : Before) : Type 0 where
   pub role : job.role ≡ role_of line.role
   pub quiet : job.faults ≡ 0
@@ -37,7 +37,7 @@ AreFresh _ _ = ⊥
 abbrev pub befores : {L : Type 0} → (L → Option Traffic) → (L → ℕ) → List (Job L) → List Before
 befores told faults jobs = map (λ job. job_before job.role (told job.link) (faults job.link)) jobs
 
--- the links are, in order, the ports that were bound n-th, n + 1-th and so on, counted from 0
+-- the links are those of the ports that were bound n-th, n + 1-th and so on, counted from 0
 abbrev pub AreNamedFrom : {L : Type 0} → (L → ℕ) → ℕ → List L → Type 0
 AreNamedFrom name n [] = Unit {0}
 AreNamedFrom name n (link ∷ links) = (name link ≡ n) × AreNamedFrom name (n + 1) links
@@ -58,7 +58,7 @@ abbrev pub NoFault : {L : Type 0} → (L → ℕ) → List L → Type 0
 NoFault faults [] = Unit {0}
 NoFault faults (link ∷ links) = (faults link ≡ 0) × NoFault faults links
 
--- the state of ports: how many were bound and released, which were released, and the number of faults
+-- the state of ports: the numbers of bound and released ports, which ports were released, and the number of faults
 pub record PortsSeen (L : Type 0) : Type 0 where
   pub bound : ℕ
   pub back : ℕ
@@ -68,7 +68,7 @@ pub record PortsSeen (L : Type 0) : Type 0 where
 abbrev pub seen_ports : {L : Type 0} → ℕ → ℕ → Option (List L) → ℕ → PortsSeen L
 seen_ports bound back returned faults = record { bound = bound; back = back; returned = returned; faults = faults }
 
--- A port wasn't bound: one bind failed, and no other was made. The ports of the lines before it were bound, in order, and released.
+-- A port wasn't bound: one bind failed, and no further bind was made. The ports of the lines before it were bound, in order, and released.
 pub record WasUnbound {L : Type 0} (told : L → Option Traffic) (faults name : L → ℕ) (lines : List PortLine) (old new : PortsSeen L) : Type 0 where
   pub jobs : List (Job L)
   pub fewer : length jobs < length lines

@@ -1,5 +1,5 @@
--- The command `simulcast`: each line of the source is a call by seat 0 on a room with bundles that records nothing, or a call on a bundle. Each reply
--- is a line of the sink.
+-- The command `simulcast`: each line of the source is a call by seat 0 on a room with
+-- bundles that records nothing, or a call on a bundle. Each reply is a line of the sink.
 use Rattle.std.specs.Prelude.{◌≡◌, ◌⊎◌, ℕ, if◌then◌else◌, List, [], ◌∷◌, ◌++◌, Option, Some, None}
 use Rattle.script_texts.specs.WholeLines.{fault_line}
 use Rattle.sfu_driver.specs.Drive.{outside_end}
@@ -16,7 +16,7 @@ use Rattle.sfu_program.specs.SimulcastTexts.{line_told}
 
 -- ---- a line
 
--- the reply, or the end at a line that is no call
+-- the reply to a line, or the end at a line that isn't a call
 abbrev pub bundle_reply_to : Option BundleLine → ℕ → Simulcast → Outcome Simulcast
 bundle_reply_to None number h = ends_with Outside (fault_line number)
 bundle_reply_to (Some line) number h = writes (line_told line h).reply (line_told line h).after
@@ -27,20 +27,20 @@ bundle_served h number text = if is_skipped text then goes_on h else bundle_repl
 
 -- ---- the whole script
 
--- the replies to lines, one after another, each in the state after the lines before it
+-- the replies to lines, one after another, each in the state after the earlier lines
 abbrev pub replies_text : List BundleLine → Simulcast → List ℕ
 replies_text [] h = []
 replies_text (line ∷ lines) h = (line_told line h).reply ++ replies_text lines (line_told line h).after
 
--- the replies, and then which line is outside the grammar
+-- the replies, and then the line that is outside the grammar
 abbrev pub due_for_script : BundleScript → Simulcast → Due
 due_for_script script h = record { text = replies_text script.lines h; end = outside_end fault_line script.fault }
 
--- all that is due for a script; before it there is no call and no bundle
+-- all texts that are due for a script; before it there is no call and no bundle
 abbrev pub simulcast_due : List ℕ → Due
 simulcast_due bytes = due_for_script (bundle_script bytes) (nothing_made [])
 
--- what is due for bytes whose end hasn't been seen
+-- what is due for bytes whose end wasn't reached
 abbrev pub simulcast_part : List ℕ → Due
 simulcast_part bytes = due_for_script (bundle_script_so_far bytes) (nothing_made [])
 

@@ -1,14 +1,15 @@
--- What the server of a script with bundles does with a line.
+-- The effect of a line on the server of a script with bundles.
 use Rattle.std.specs.Prelude.{◌≤◌, ℕ, List, Result, length}
 use Rattle.sfu_driver.specs.declared.halt.Halt.{Halt}
 use Rattle.sfu_driver.specs.Drive.{Judges}
 use Rattle.sfu_driver.specs.Outcome.{writes}
-use Rattle.sfu_commands.specs.Run.{untold}
+use Rattle.script_run.specs.Run.{untold}
 use Rattle.simulcast.specs.Bundles.{Simulcast, StandsFor}
 use Rattle.sfu_program.specs.declared.bundling.server.BundleServer.{BundleServer}
 use Rattle.sfu_program.specs.SimulcastTexts.{Told}
 
--- From any state that it represented, the reply was appended to the output so far, and it represents the state after the line; or memory ran out.
+-- For any state that the server represented: the reply was appended to the output
+-- so far, and the server represents the state after the line. Or memory ran out.
 pub record ServesLine (says : Simulcast → Told) (old new : BundleServer) (ready ready' : List ℕ) (result : Result (Unit {0}) Halt) : Type 0 where
   pub judges : (h : Simulcast) → StandsFor untold old.bundles h
       → Judges (λ (server : BundleServer) (h : Simulcast). StandsFor untold server.bundles h) (writes (says h).reply (says h).after) new ready ready' result

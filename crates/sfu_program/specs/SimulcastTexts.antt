@@ -14,7 +14,7 @@ use Rattle.simulcast.specs.Answers.{Answered, bundle_made, bundle_pumped, leg_ch
 use Rattle.simulcast.specs.Bundles.{Simulcast}
 use Rattle.simulcast.specs.Made.{just_made}
 
--- why a line was refused; a refusal that a room also has is written as the room's
+-- the reason why a line was refused; a refusal that a room has too is written as the room's is
 abbrev pub fault_text : BundleFault → List ℕ
 fault_text fault.NoBundle = bundle_reply_text reply.NoBundle
 fault_text (fault.NumberUsed highest) = answer_text (Refused (refusal.NumberUsed highest))
@@ -25,7 +25,7 @@ fault_text (fault.Bound bundle) = bundle_reply_text (reply.Bound bundle)
 fault_text (fault.Room why) = answer_text (Refused why)
 fault_text fault.NoMemory = answer_text (Refused refusal.NoMemory)
 
--- ---- what is answered
+-- ---- the replies
 
 abbrev pub done_text : Unit {0} → List ℕ
 done_text done = answer_text Done

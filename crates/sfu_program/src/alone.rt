@@ -5,14 +5,14 @@ ghost use Rattle.sfu_commands.specs.Check.{Checks, IsCheck};
 ghost use Rattle.sfu_commands.specs.Convert.{Converts, IsConvert};
 ghost use Rattle.stream_maker.specs.Stream.{Stream};
 ghost use Rattle.sfu_commands.specs.Help.{Helps, IsHelp, Refuses};
-ghost use Rattle.sfu_commands.specs.Promise.{AreServed};
+ghost use Rattle.script_run.specs.Promise.{AreServed};
 ghost use Rattle.sfu_commands.specs.Record.{IsRecord, Records};
-ghost use Rattle.sfu_commands.specs.Run.{IsRun, Runs};
+ghost use Rattle.script_run.specs.Run.{Runs};
 ghost use Rattle.cascade.specs.Command.{PlaysCascade};
 ghost use Rattle.sfu_commands.specs.StreamWords.{IsCascade, IsTrial};
-ghost use Rattle.sfu_commands.specs.Trial.{Tries};
+ghost use Rattle.cascade.specs.Trial.{Tries};
 ghost use Rattle.sfu_base.specs.Faults.{Rose};
-ghost use Rattle.sfu_commands.specs.Words.{IsForm, IsSimulcast};
+ghost use Rattle.sfu_commands.specs.Words.{IsForm, IsRun, IsSimulcast};
 ghost use Rattle.sfu_program.specs.Complete.{Completes, IsInside};
 ghost use Rattle.sfu_program.specs.Forms.{IsStatus};
 ghost use Rattle.sfu_program.specs.Simulcast.{Simulcasts};
@@ -21,12 +21,13 @@ ghost use Rattle.sfu_driver.specs.Exchange.{exchange_of};
 ghost use Rattle.sfu_driver.specs.Statuses.{FirstFault};
 
 use crate::bundling::run_with_bundles;
-use cascade::cascade;
+use cascade::{cascade, trial};
+use script_run::run;
 use sfu_base::{Sink, Source};
-use sfu_commands::{Command, check, convert, help, read_words, record, refuse, run, trial};
+use sfu_commands::{Command, check, convert, help, read_words, record, refuse};
 use std::alloc::Global;
 
-// Executes the command that the words are: one arm and one clause for each command.
+// Executes the command of these words. The function has one arm and one clause for each command.
 fn follow<S: Source, K: Sink>(alloc: Global, words: &[String], source: &mut S, sink: &mut K) -> u8
     ensures run { IsRun (map string_bytes words.now)
         → Runs (exchange_of S.left S.faults K.written K.faults source.old source.new sink.old sink.new) result }

@@ -15,7 +15,7 @@ use sfu_edge::{StdSink, StdSource, SysClock, UdpPorts, WakeTable};
 use std::process::ExitCode;
 use std::{env, io};
 
-// The command-line arguments; if one of them isn't UTF-8, none, which is no command.
+// Returns the command-line arguments. If one isn't valid UTF-8, returns no arguments, which aren't a command.
 fn arguments(rt: &HostRuntime) -> io::Result<Vec<String>> {
     let mut words = Vec::new(rt.alloc());
     let all = match env::args(rt) {

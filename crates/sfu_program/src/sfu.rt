@@ -5,13 +5,13 @@ ghost use Rattle.sfu_commands.specs.Check.{Checks, IsCheck};
 ghost use Rattle.sfu_commands.specs.Convert.{Converts, IsConvert};
 ghost use Rattle.stream_maker.specs.Stream.{Stream};
 ghost use Rattle.sfu_commands.specs.Help.{Helps, IsHelp, Refuses};
-ghost use Rattle.sfu_commands.specs.Promise.{AreServed};
+ghost use Rattle.script_run.specs.Promise.{AreServed};
 ghost use Rattle.sfu_commands.specs.Record.{IsRecord, Records};
-ghost use Rattle.sfu_commands.specs.Run.{IsRun, Runs};
+ghost use Rattle.script_run.specs.Run.{Runs};
 ghost use Rattle.cascade.specs.Command.{PlaysCascade};
 ghost use Rattle.sfu_commands.specs.StreamWords.{IsCascade, IsTrial};
-ghost use Rattle.sfu_commands.specs.Trial.{Tries};
-ghost use Rattle.sfu_commands.specs.Words.{IsSimulcast};
+ghost use Rattle.cascade.specs.Trial.{Tries};
+ghost use Rattle.sfu_commands.specs.Words.{IsRun, IsSimulcast};
 ghost use Rattle.sfu_program.specs.Simulcast.{Simulcasts};
 ghost use Rattle.sfu_program.specs.SimulcastPromise.{AreBundlesServed};
 ghost use Rattle.sfu_program.specs.Complete.{Completes, IsInside, NoneRose};
@@ -31,7 +31,7 @@ use std::alloc::Global;
 use std::sync::Wait;
 use std::thread::Threads;
 
-// Whether a word is `together`.
+// Returns whether a word is `together`.
 fn is_together(word: &str) -> bool
     ensures { IsTrue result ↔ IsTogether (word.now ∷ []) }
 {
@@ -41,7 +41,7 @@ fn is_together(word: &str) -> bool
     }
 }
 
-// Whether the words are `together`.
+// Returns whether the words are `together`.
 fn are_together(words: &[String]) -> bool
     ensures { IsTrue result ↔ IsTogether (map string_bytes words.now) }
 {

@@ -1,4 +1,4 @@
--- A line of an actor is read exactly if the grammar says so.
+-- A line of an actor is read as the grammar says, and no other line is.
 use Rattle.std.proofs.Common.{◌≡◌, ◌≤◌, ℕ, ◌+◌, ◌-◌, true, false, ◌&&◌, eqb, eqb-true, leb, List, [], ◌∷◌, ◌++◌, refl, sym, ap, ◌∙◌, arith, subst, Some}
 use Rattle.std.specs.Prelude.{codes, decimal}
 use Rattle.std.proofs.lemmas.Bool.{and_parts}

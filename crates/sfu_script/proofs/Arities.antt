@@ -1,4 +1,4 @@
--- Calls of one, two, three or six numbers, from the numbers that are read.
+-- Calls with one, two, three or six numbers, from the numbers that are read.
 use Rattle.std.proofs.Common.{◌≡◌, ℕ, List, [], ◌∷◌, refl, subst, Some}
 use Rattle.sfu_base.specs.declared.call.Call.{Call}
 use Rattle.script_texts.specs.Grammar.{Spells}

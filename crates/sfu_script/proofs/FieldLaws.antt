@@ -1,4 +1,4 @@
--- What the fields of a text are read as is spelled there, and what is spelled there is read.
+-- The numbers that are read from a text are written there, and the numbers written there are read.
 use Rattle.std.proofs.Common.{◌≡◌, ◌<◌, ℕ, suc, ◌^◌, true, List, [], ◌∷◌, length, refl, sym, ap, ◌∙◌, arith, subst, Some}
 use Rattle.script_texts.specs.Grammar.{Fills, Spells}
 use Rattle.sfu_script.specs.Fields.{field_of, fields_of, place_of, places_of, bits_of, AreWithin}

@@ -9,7 +9,7 @@ use Rattle.sfu_script.specs.Reading.{◌>>=◌, cut, field}
 use Rattle.sfu_script.specs.declared.fields.Field.{Field}
 use Rattle.sfu_script.specs.declared.fields.Field.TheVariants.{Number8}
 
--- the numbers before those that are read
+-- numbers put before those that are read
 abbrev pub with_front : List ℕ → Option (List ℕ) → Option (List ℕ)
 with_front front None = None
 with_front front (Some numbers) = Some (front ++ numbers)
@@ -38,7 +38,7 @@ fields_last (p ∷ []) zero d text e = refl
 fields_last (p ∷ q ∷ ps) zero d text e = absurd (omega arith)
 fields_last (p ∷ ps) (suc i) d text e = fields_last ps i d text (omega arith)
 
--- ---- one more turn of the loop; `all` is what the whole text says
+-- ---- one more iteration of the loop; `all` is the meaning of the whole text
 
 more : (places : List Field) (i : ℕ) (d : Field) (text : List ℕ) → i + 1 < length places
     → fields_of (drop i places) text ≡ (field (field_of (get_or places i d)) text >>= (λ n. fields_of (drop (i + 1) places) n.1 >>= (λ ns. Some (n.0 ∷ ns))))
@@ -66,7 +66,7 @@ last_read places numbers rest i n d all end whole reads so_far =
     let full : take (i + 1) (set numbers i n) ≡ set numbers i n = take_all (i + 1) (set numbers i n) (omega (arith, length-set {A = ℕ})) in
     sym so_far ∙ ap (with_front (take i numbers)) here ∙ ap (λ (x : List ℕ). Some x) (sym (take_more_set numbers i n (omega arith)) ∙ full)
 
--- what a failed reading says
+-- the meaning of a reading that failed
 pub on_err : {T E : Type 0} (r : Result T E) (P : T → Type 0) (Q : Type 0) → IsErr r → Q → MatchResult r P (λ _. Q)
 on_err (Ok x) P Q h q = cc
 on_err (Err e) P Q h q = q

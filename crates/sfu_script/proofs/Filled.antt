@@ -1,4 +1,4 @@
--- What a word is read as fills its place, and what fills a place is read as that.
+-- A value that is read from a word is right for its place, and a word that is right for its place is read as that value.
 use Rattle.std.proofs.Common.{◌≡◌, ◌<◌, ◌≤◌, ℕ, zero, suc, ◌^◌, ◌*◌, true, false, not, ◌&&◌, ◌||◌, eqb, ltb, leb, List, length, get_or, slice_index, refl, sym, ap, ◌∙◌, subst, arith, Option, Some, None, Result, Ok, Err}
 use Rattle.std.specs.Prelude.{decimal}
 use Rattle.std.specs.Int.{from_be_bytes, to_be_bytes, w32}

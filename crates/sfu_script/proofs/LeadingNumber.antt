@@ -1,4 +1,4 @@
--- A number of at most 18 digits at the start of a text, with a space after it.
+-- A number of at most 18 digits at the start of a text, followed by a space.
 use Rattle.std.proofs.Common.{◌≡◌, ◌≢◌, ◌⊎◌, inl, inr, ◌<◌, ◌≤◌, ℕ, ◌+◌, ◌^◌, true, not, ◌||◌, eqb, ltb}
 use Rattle.std.proofs.Common.{List, ◌∷◌, ◌++◌, length, take, drop, get_or, refl, sym, ap, ◌∙◌, Some, arith}
 use Rattle.std.proofs.lemmas.Bool.{lt-ltb, ne_eqb, or_left, or_right, not_from_false}

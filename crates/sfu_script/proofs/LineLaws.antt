@@ -1,4 +1,4 @@
--- A line is read as a call exactly if the grammar says so.
+-- A line is read as a call as the grammar says, and no other line is.
 use Rattle.std.proofs.Common.{◌≡◌, ℕ, Bool, true, false, cond, List, [], ◌∷◌, ◌++◌, refl, sym, ap, ◌∙◌, subst, arith, Option, Some, None}
 use Rattle.std.specs.Prelude.{codes}
 use Rattle.std.specs.Option.{option_map_or}
@@ -23,7 +23,7 @@ use Rattle.sfu_script.proofs.FieldLaws.{fields_again}
 use Rattle.sfu_script.proofs.PublishLine.{publish_found, plain_again, layered_again}
 use Rattle.sfu_script.proofs.PacketLine.{packet_found, packet_again}
 
--- the line is the word and what follows it
+-- the line is the word and the text after it
 abbrev Behind : List ℕ → List ℕ → Call → Type 0
 Behind word rest call = IsLine call (word ++ 32 ∷ rest)
 
@@ -66,7 +66,7 @@ subscriber_named word command =
     (pick subscriber_word word of_subscriber.Resend command _ _ refl (pick subscriber_word word of_subscriber.Plead command _ _ refl
     (pick subscriber_word word of_subscriber.Why command _ _ refl (no_name subscriber_word word command)))))))
 
--- ---- what is read is spelled
+-- ---- a line that is read is written like this
 
 track_found : (command : TrackCommand) (rest : List ℕ) (call : Call) → track_call_of command rest ≡ Some call → Behind (track_word command) rest call
 track_found of_track.Publish rest call e = publish_found rest call e
@@ -109,7 +109,7 @@ subscriber_found of_subscriber.Why rest call e =
     let h = two_read (Number32 ∷ Number64 ∷ []) rest (λ s n. Why s n) call e in
     subst (Behind (codes "why") rest) h.3 (codes "why", rest, refl, h.2, refl)
 
--- a call was found after the word of a track's command, or after that of a subscriber's
+-- a call was found after the word of a track's command, or after that of a subscriber's command
 command_found : (word rest : List ℕ) (call : Call) (t : Option TrackCommand) (s : Option SubscriberCommand) → track_command_of word ≡ t → subscriber_command_of word ≡ s
     → option_map_or (λ command. track_call_of command rest) t (s >>= (λ command. subscriber_call_of command rest)) ≡ Some call → Behind word rest call
 command_found word rest call (Some command) s named other e =
@@ -123,13 +123,13 @@ call_found line call e =
     let a = bind_some (cut line) (λ parts. command_of parts.0 parts.1) call e in
     subst (λ (text : List ℕ). IsLine call text) (sym (cut_found line a.0 a.1)) (command_found (a.0).0 (a.0).1 call _ _ refl refl a.2)
 
--- ---- what is spelled is read
+-- ---- a line that is written like this is read
 
 -- the line is its first word and the rest
 begun : (line word rest wanted : List ℕ) → word ≡ wanted → line ≡ word ++ 32 ∷ rest → line ≡ wanted ++ 32 ∷ rest
 begun line word rest wanted is e = e ∙ ap (λ (w : List ℕ). w ++ 32 ∷ rest) is
 
--- the numbers that are read make the call
+-- the numbers that are read are those of the call
 made : (o : Option (List ℕ)) (numbers : List ℕ) (f : List ℕ → Option Call) (call : Call) → o ≡ Some numbers → f numbers ≡ Some call → (o >>= f) ≡ Some call
 made o numbers f call is e = ap (λ (x : Option (List ℕ)). x >>= f) is ∙ e
 

@@ -1,4 +1,4 @@
--- `packet T MOMENT HEX`, both ways.
+-- `packet T MOMENT HEX`, read and written.
 use Rattle.std.proofs.Common.{◌≡◌, ℕ, List, [], ◌∷◌, ◌++◌, refl, sym, subst, arith, Some}
 use Rattle.std.specs.Prelude.{codes}
 use Rattle.sfu_base.specs.declared.call.Call.{Call}

@@ -1,4 +1,4 @@
--- A line of a port is read exactly if the grammar says so.
+-- A line of a port is read as the grammar says, and no other line is.
 use Rattle.std.proofs.Common.{◌≡◌, ◌<◌, ℕ, ◌^◌, ◌/◌, ◌%◌, Bool, true, false, cond, List, [], ◌∷◌, ◌++◌, get_or, refl, sym, ap, ◌∙◌, arith, subst, Option, Some, None}
 use Rattle.std.specs.Prelude.{codes, decimal, IsTrue}
 use Rattle.std.specs.Int.{from_be_bytes, to_be_bytes, w32}
@@ -10,7 +10,7 @@ use Rattle.std.proofs.lemmas.Slice.Eq.{bytes_eq-Decides}
 use Rattle.sfu_base.specs.declared.address.Address.{Address}
 use Rattle.script_texts.specs.Grammar.{Place, Fills, Spells, address_text}
 use Rattle.script_texts.specs.Grammar.{Address as AddressPlace}
-use Rattle.sfu_script.specs.Ports.{ip_of, address_of, publisher_of, subscriber_of, if_apart, is_apart, of_rtx, rtx_of, named_role_of, role_of, addressed, port_of, role_places, IsPortLine}
+use Rattle.sfu_script.specs.Ports.{ip_of, address_of, publisher_of, subscriber_of, is_apart, of_rtx, rtx_of, named_role_of, role_of, addressed, port_of, role_places, IsPortLine}
 use Rattle.sfu_script.specs.Reading.{◌>>=◌, cut, cut_at, field, number_of}
 use Rattle.sfu_script.specs.Fields.{fields_of, places_of}
 use Rattle.sfu_script.specs.declared.fields.Field.{Field}
@@ -143,9 +143,9 @@ address_no_space ip port k =
     (lacks_both 32 (decimal (ip / 65536 % 256)) (46 ∷ (decimal (ip / 256 % 256) ++ 46 ∷ decimal (ip % 256))) lb
     (lacks_both 32 (decimal (ip / 256 % 256)) (46 ∷ decimal (ip % 256)) lc ld))) lp
 
--- ---- what is read is spelled
+-- ---- a line that is read is written like this
 
--- the text says what a port is for
+-- the role in the text
 abbrev Says : PortRole → List ℕ → Type 0
 Says role text = IsTrue (is_apart role) × Spells (role_places role) text
 
@@ -244,7 +244,7 @@ port_found line port e =
     let behind = addressed_found (a.0).1 port c.1 in
     (behind.0, ((a.0).0, (a.0).1, (bytes_eq-Decides (a.0).0 (codes "port")).0 c.0, behind.1, cut_found line a.0 a.1))
 
--- ---- what is spelled is read
+-- ---- a line that is written like this is read
 
 begun : (text word rest wanted : List ℕ) → word ≡ wanted → text ≡ word ++ 32 ∷ rest → text ≡ wanted ++ 32 ∷ rest
 begun text word rest wanted is e = e ∙ ap (λ (w : List ℕ). w ++ 32 ∷ rest) is

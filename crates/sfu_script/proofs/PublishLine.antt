@@ -1,4 +1,4 @@
--- `publish T plain SSRC HOLD` and `publish T layered SSRC HOLD ID`, both ways.
+-- `publish T plain SSRC HOLD` and `publish T layered SSRC HOLD ID`, read and written.
 use Rattle.std.proofs.Common.{◌≡◌, ℕ, Bool, true, false, cond, List, [], ◌∷◌, ◌++◌, refl, subst, arith, Option, Some, None}
 use Rattle.std.specs.Prelude.{codes}
 use Rattle.std.specs.Str.{bytes_eq}
@@ -21,7 +21,7 @@ use Rattle.sfu_script.proofs.Steps.{number_read, word_read, number_spelled, word
 abbrev pub IsBehind : Call → List ℕ → Type 0
 IsBehind call rest = IsLine call (codes "publish" ++ 32 ∷ rest)
 
--- a choice has a value: one of the two sides has one
+-- if a choice has a value, one of its two sides has one
 choose : (test : Bool) (one other : Option Call) (call : Call) (P : Type 0) → (test ≡ true → one ≡ Some call → P) → (other ≡ Some call → P)
     → cond test one other ≡ Some call → P
 choose true one other call P here there e = here refl e

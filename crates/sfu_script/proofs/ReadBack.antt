@@ -1,4 +1,4 @@
--- The line written for a call says this call.
+-- The line that is written for a call is a line of this call.
 use Rattle.std.proofs.Common.{◌≡◌, Some}
 use Rattle.sfu_base.specs.declared.call.Call.{Call}
 use Rattle.script_texts.specs.Lines.{HasLine, line_of, places}

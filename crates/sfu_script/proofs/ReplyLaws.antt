@@ -1,4 +1,4 @@
--- A reply's text says one answer: its words can be read back.
+-- A reply's text is that of one answer: its words can be read back.
 use Rattle.std.proofs.Common.{◌≡◌, ◌≤◌, ◌<◌, ℕ, ◌^◌, Bool, true, false, not, cond, eqb, leb, ◌&&◌, List, [], ◌∷◌, ◌++◌, map, refl, sym, ap, ◌∙◌, Option, Some, None, arith}
 use Rattle.std.specs.Prelude.{codes, decimal, if◌then◌else◌}
 use Rattle.std.specs.Int.{to_be_bytes, w32}
@@ -52,7 +52,7 @@ word_more (b ∷ bs) rest h =
     ap (λ (t : Bool). cond t ([] ∷ words_of (bs ++ 32 ∷ rest)) (onto_word b (words_of (bs ++ 32 ∷ rest)))) (is_false (eqb b 32) parts.0)
     ∙ ap (onto_word b) (word_more bs rest parts.1)
 
--- each word of the places is without a space
+-- each word of the places contains no space
 abbrev AreWords : List Place → Type 0
 AreWords [] = Unit {0}
 AreWords (place ∷ others) = (no_space (word_of place) ≡ true) × AreWords others
@@ -88,7 +88,7 @@ are_words (Ssrc ssrc ∷ others) p h = ((ssrc_again (word_of (Ssrc ssrc)) ssrc (
 are_words (Hex bytes ∷ others) p h = (hex_no_space (encode_lower bytes) bytes (decode_of-encode_lower bytes h.0.2), are_words others p h.1)
 are_words (Address ip port ∷ others) p h = cc
 
--- ---- what words say
+-- ---- the meaning of words
 
 abbrev one_in : {X : Type 0} → ℕ → (ℕ → X) → List (List ℕ) → Option X
 one_in bits f (word ∷ []) = option_map f (number_of bits word)
@@ -175,7 +175,7 @@ answer_in (name ∷ others) =
     else if bytes_eq name (codes "refused") then option_map (λ why. Refused why) (refused_in others)
     else option_map (λ verdict. Told verdict) (verdict_in name others)
 
--- ---- each answer's words say it
+-- ---- the words of each answer mean this answer
 
 number_in : (bits n : ℕ) → 2 ^ bits ≤ 2 ^ 64 → n < 2 ^ bits → number_of bits (decimal n) ≡ Some n
 number_in bits n small h = (number_again bits n (decimal n) small (h, refl)).1
@@ -250,7 +250,7 @@ bytes_said bytes h = let a = decode_of-encode_lower bytes h in rw a refl
 named_said : (ns : List ℕ) → AllWithin (map (λ n. Number 16 n) ns) → answer_in (map word_of (answer_places (Named ns))) ≡ Some (Named ns)
 named_said ns h = ap (λ (o : Option (List ℕ)). option_map (λ x. Named x) o) (numbers_said ns h)
 
--- ---- the words of each answer have no space
+-- ---- the words of each answer contain no space
 
 plain_verdict : (verdict : Verdict) → are_plain (verdict_places verdict) ≡ true
 plain_verdict (NotOfTarget None) = refl
@@ -273,7 +273,7 @@ plain_names : (ns : List ℕ) → are_plain (map (λ n. Number 16 n) ns) ≡ tru
 plain_names [] = refl
 plain_names (n ∷ ns) = plain_names ns
 
--- a text of places, read
+-- a text of places, read back
 read_text : (place : Place) (others : List Place) (answer : Answer) → AreWords (place ∷ others) → answer_in (map word_of (place ∷ others)) ≡ Some answer
     → answer_in (words_of (text_of (place ∷ others))) ≡ Some answer
 read_text place others answer h said = ap answer_in (text_words place others h) ∙ said

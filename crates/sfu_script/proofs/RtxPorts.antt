@@ -1,5 +1,5 @@
--- The numbers read for a port with a retransmission stream, and what they say.
-use Rattle.std.proofs.Common.{◌≡◌, ℕ, Bool, true, false, cond, List, [], ◌∷◌, length, slice_index_or, refl, sym, ap, ◌∙◌, arith, Option, Some, None}
+-- The numbers that are read for a port with a retransmission stream, and their meaning.
+use Rattle.std.proofs.Common.{◌≡◌, ℕ, Bool, cond, List, [], ◌∷◌, length, slice_index_or, refl, sym, ap, ◌∙◌, arith, Option, Some, None}
 use Rattle.sfu_script.specs.Ports.{is_apart, of_rtx}
 use Rattle.sfu_script.specs.Reading.{◌>>=◌}
 use Rattle.sfu_script.specs.declared.ports.PortRole.{PortRole}

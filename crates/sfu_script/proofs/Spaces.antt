@@ -1,4 +1,4 @@
--- Words contain no space, and a text is cut at the first byte of a kind.
+-- Words contain no space, and a text is cut at the first byte of a given value.
 use Rattle.std.proofs.Common.{◌≡◌, ℕ, Bool, true, false, not, ◌&&◌, cond, eqb, eqb-true, eq-eqb, List, [], ◌∷◌, ◌++◌, Option, Some, None, refl, ap, ◌∙◌}
 use Rattle.std.proofs.lemmas.Bool.{and_parts}
 use Rattle.std.proofs.lemmas.List.Elements.{All-head, All-tail}
@@ -7,7 +7,7 @@ use Rattle.std.specs.List.{AllPass}
 use Rattle.std.specs.Str.{all_ascii_digits}
 use Rattle.sfu_script.specs.Reading.{cut, cut_at, onto_first}
 
--- the text has no such byte
+-- the text has no byte of this value
 abbrev pub lacks : ℕ → List ℕ → Bool
 lacks mark [] = true
 lacks mark (b ∷ bs) = not (eqb b mark) && lacks mark bs
@@ -22,7 +22,7 @@ is_false : (b : Bool) → not b ≡ true → b ≡ false
 is_false true h = cc
 is_false false h = refl
 
--- a byte that passes a test that the mark fails is another
+-- a byte that passes a test that the mark fails isn't the mark
 another : (passes : ℕ → Bool) (mark b : ℕ) (same : Bool) → eqb b mark ≡ same → passes mark ≡ false → passes b ≡ true → not same ≡ true
 another passes mark b true e fails holds = let is : b ≡ mark = eqb-true b mark e in cc
 another passes mark b false e fails holds = refl
@@ -45,7 +45,7 @@ lacks_digits mark fails (b ∷ bs) h =
 pub no_space_digits : (word : List ℕ) → all_ascii_digits word ≡ true → no_space word ≡ true
 no_space_digits word h = lacks_digits 32 refl word h
 
--- two texts without the mark, one after the other
+-- two texts without the mark, one after another
 pub lacks_both : (mark : ℕ) (xs ys : List ℕ) → lacks mark xs ≡ true → lacks mark ys ≡ true → lacks mark (xs ++ ys) ≡ true
 lacks_both mark [] ys h k = k
 lacks_both mark (x ∷ xs) ys h k =
@@ -78,7 +78,7 @@ cut_at_found mark (b ∷ bs) p e = cut_case mark (eqb b mark) b bs p refl (λ q 
 pub cut_found : (text : List ℕ) (p : List ℕ × List ℕ) → cut text ≡ Some p → text ≡ p.0 ++ 32 ∷ p.1
 cut_found text p e = cut_at_found 32 text p e
 
--- a word without the mark is cut off whole
+-- a word without the mark is cut off as a whole
 pub cut_at_again : (mark : ℕ) (word rest : List ℕ) → lacks mark word ≡ true → cut_at mark (word ++ mark ∷ rest) ≡ Some (word, rest)
 cut_at_again mark [] rest h = ap (λ (t : Bool). cond t (Some ([], rest)) (onto_first mark (cut_at mark rest))) (same_byte mark)
 cut_at_again mark (b ∷ bs) rest h =

@@ -21,7 +21,7 @@ pub field_again : {X : Type 0} (read : List ℕ → Option X) (word rest text : 
     → text ≡ word ++ 32 ∷ rest → field read text ≡ Some (x, rest)
 field_again read word rest text x h e is = ap (field read) is ∙ rw (cut_again word rest h, e) refl
 
--- ---- what is read is spelled
+-- ---- a word that is read is written like this
 
 pub number_read : (bits : ℕ) → 2 ^ bits ≤ 2 ^ 64 → (text : List ℕ) (p : ℕ × List ℕ) (next : Place) (places : List Place)
     → field (number_of bits) text ≡ Some p → Spells (next ∷ places) p.1 → Spells (Number bits p.0 ∷ next ∷ places) text
@@ -39,7 +39,7 @@ pub word_read : (wanted text : List ℕ) (p : List ℕ × List ℕ) (next : Plac
     → cut text ≡ Some p → p.0 ≡ wanted → Spells (next ∷ places) p.1 → Spells (Word wanted ∷ next ∷ places) text
 word_read wanted text p next places e is h = (p.0, p.1, is, h, cut_found text p e)
 
--- ---- what is spelled is read
+-- ---- a word that is written like this is read
 
 pub number_spelled : (bits n : ℕ) → 2 ^ bits ≤ 2 ^ 64 → (text : List ℕ) (next : Place) (places : List Place)
     → Spells (Number bits n ∷ next ∷ places) text → (rest : List ℕ) × (field (number_of bits) text ≡ Some (n, rest)) × Spells (next ∷ places) rest

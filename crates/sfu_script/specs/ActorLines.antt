@@ -1,11 +1,11 @@
--- The lines of actors that run at the same time: `@K` with a call's line, K from 1 to 8. Own rule.
+-- The lines of actors that run at the same time: `@K` and the line of a call, with K from 1 to 8. Own rule.
 use Rattle.std.specs.Prelude.{◌≡◌, ℕ, ◌-◌, ◌≤◌, ◌==◌, ◌&&◌, nat_le, if◌then◌else◌, List, [], ◌∷◌, ◌++◌, Option, Some, None, codes, decimal}
 use Rattle.sfu_base.specs.declared.call.Call.{Call}
 use Rattle.script_texts.specs.Lines.{IsLine}
 use Rattle.sfu_script.specs.Reading.{◌>>=◌, cut}
 use Rattle.sfu_script.specs.ReadLines.{call_of}
 
--- The line says that the actor makes the call.
+-- The line is one of this actor with this call.
 pub record IsActorLine (actor : ℕ) (call : Call) (line : List ℕ) : Type 0 where
   pub first : 1 ≤ actor
   pub last : actor ≤ 8
@@ -18,7 +18,7 @@ abbrev pub actor_of : List ℕ → Option ℕ
 actor_of (mark ∷ digit ∷ []) = if mark == 64 && (nat_le 49 digit && nat_le digit 56) then Some (digit - 48) else None
 actor_of word = None
 
--- the actor and the call that a line says
+-- the actor and the call of a line
 abbrev pub actor_call_of : List ℕ → Option (ℕ × Call)
 actor_call_of line = do
   parts ← cut line

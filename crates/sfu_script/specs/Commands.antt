@@ -1,4 +1,4 @@
--- The commands by their names, which are first words.
+-- The commands by their names. A name is the first word of a line.
 use Rattle.std.specs.Prelude.{ℕ, if◌then◌else◌, List, Option, Some, None, codes}
 use Rattle.std.specs.Str.{bytes_eq}
 use Rattle.sfu_script.specs.declared.commands.TrackCommand.{TrackCommand}
@@ -6,7 +6,7 @@ use Rattle.sfu_script.specs.declared.commands.TrackCommand.TheVariants.{Publish,
 use Rattle.sfu_script.specs.declared.commands.SubscriberCommand.{SubscriberCommand}
 use Rattle.sfu_script.specs.declared.commands.SubscriberCommand.TheVariants.{Join, Leave, Aim, Take, Resend, Plead, Why}
 
--- the command about a track with this name
+-- the command about a track that has this name
 abbrev pub track_command_of : List ℕ → Option TrackCommand
 track_command_of word =
     if bytes_eq word (codes "publish") then Some Publish
@@ -17,7 +17,7 @@ track_command_of word =
     else if bytes_eq word (codes "key") then Some Key
     else None
 
--- the command about a subscriber with this name
+-- the command about a subscriber that has this name
 abbrev pub subscriber_command_of : List ℕ → Option SubscriberCommand
 subscriber_command_of word =
     if bytes_eq word (codes "join") then Some Join

@@ -1,12 +1,12 @@
--- The numbers of the words of a text, as functions that compute, and the same numbers as places of a line.
--- The code goes over an array of fields with an index.
+-- The numbers in the words of a text, as functions that compute, and the same numbers as places of a line.
+-- The code visits an array of fields by index.
 use Rattle.std.specs.Prelude.{ℕ, ◌^◌, ◌<◌, List, [], ◌∷◌, Option, Some, None}
 use Rattle.script_texts.specs.Grammar.{Place, Number, Ssrc}
 use Rattle.sfu_script.specs.Reading.{◌>>=◌, field, number_of, ssrc_of}
 use Rattle.sfu_script.specs.declared.fields.Field.{Field}
 use Rattle.sfu_script.specs.declared.fields.Field.TheVariants as kind
 
--- the number of the word for this field
+-- the number that the word has for this field
 abbrev pub field_of : Field → List ℕ → Option ℕ
 field_of kind.Number8 word = number_of 8 word
 field_of kind.Number16 word = number_of 16 word
@@ -14,7 +14,7 @@ field_of kind.Number32 word = number_of 32 word
 field_of kind.Number64 word = number_of 64 word
 field_of kind.Ssrc word = ssrc_of word
 
--- the numbers of the words of the text, one for each field, with one space between the words
+-- the numbers that the text's words have, one for each field, with one space between the words
 abbrev pub fields_of : List Field → List ℕ → Option (List ℕ)
 fields_of [] text = None
 fields_of (last ∷ []) text = do

@@ -1,7 +1,6 @@
 pub mod ActorLines
 pub mod Commands
 pub mod Fields
-pub mod Kept
 pub mod Ports
 pub mod ReadLines
 pub mod Reading

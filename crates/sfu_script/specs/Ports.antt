@@ -13,7 +13,7 @@ use Rattle.sfu_script.specs.declared.fields.Field.TheVariants.{Number8, Number32
 use Rattle.sfu_script.specs.Reading.{◌>>=◌, cut, cut_at, field, number_of}
 use Rattle.sfu_script.specs.ReadLines.{of_two}
 
--- the places of a line about what a port is for
+-- the places of the part of a line that describes the port's role
 abbrev pub role_places : PortRole → List Place
 role_places (Publisher track ssrc) = Word (codes "publisher") ∷ Number 32 track ∷ SsrcPlace ssrc ∷ []
 role_places (Subscriber subscriber ssrc) = Word (codes "subscriber") ∷ Number 32 subscriber ∷ SsrcPlace ssrc ∷ []
@@ -21,13 +21,13 @@ role_places Control = Word (codes "control") ∷ []
 role_places (Rtx subscriber ssrc rtx_ssrc payload_type) =
     Word (codes "rtx") ∷ Number 32 subscriber ∷ SsrcPlace ssrc ∷ SsrcPlace rtx_ssrc ∷ Number 8 payload_type ∷ []
 
--- Retransmissions differ from other packets: their stream has an SSRC of its own (RFC 4588, section 5.3), and their payload type is 0
--- to 63 or 96 to 127, so that with or without the marker bit their second byte isn't one of RTCP's (RFC 5761, section 4).
+-- Retransmissions differ from other packets. Their stream has its own SSRC (RFC 4588, section 5.3), and their payload type
+-- is 0 to 63 or 96 to 127. So with or without the marker bit their second byte isn't one of RTCP's (RFC 5761, section 4).
 abbrev pub is_apart : PortRole → Bool
 is_apart (Rtx subscriber ssrc rtx_ssrc payload_type) = not (rtx_ssrc == ssrc) && (nat_lt payload_type 64 || (nat_le 96 payload_type && nat_lt payload_type 128))
 is_apart role = true
 
--- The line says the port: its own address, its peer's, and what it is for.
+-- The line is one of this port: its own address, its peer's address, and its role.
 abbrev pub IsPortLine : PortLine → List ℕ → Type 0
 IsPortLine port line = IsTrue (is_apart port.role) × Spells
     (Word (codes "port") ∷ AddressPlace port.local.ip port.local.port ∷ AddressPlace port.peer.ip port.peer.port ∷ role_places port.role) line
@@ -54,7 +54,7 @@ address_of word = do
   port ← number_of 16 parts.1
   Some (record { ip = ip; port = port })
 
--- a publisher's or a subscriber's number and SSRC
+-- the number and the SSRC of a publisher or subscriber
 abbrev pub publisher_of : List ℕ → Option PortRole
 publisher_of rest = fields_of (Number32 ∷ Ssrc ∷ []) rest >>= of_two (λ track ssrc. Publisher track ssrc)
 
@@ -80,11 +80,11 @@ named_role_of word rest =
     else if bytes_eq word (codes "rtx") then rtx_of rest
     else None
 
--- what a port is for
+-- the role of a port
 unfoldable pub role_of : List ℕ → Option PortRole
 role_of rest = if bytes_eq rest (codes "control") then Some Control else (cut rest >>= (λ parts. named_role_of parts.0 parts.1))
 
--- after `port`: the port's own address, its peer's, and what it is for
+-- the words after `port`: the port's own address, its peer's, and its role
 unfoldable pub addressed : List ℕ → Option PortLine
 addressed rest = do
   local ← field address_of rest
@@ -92,7 +92,7 @@ addressed rest = do
   role ← role_of peer.1
   Some (record { local = local.0; peer = peer.0; role = role })
 
--- the port that a line names
+-- the port of a line
 abbrev pub port_of : List ℕ → Option PortLine
 port_of line = do
   parts ← cut line

@@ -1,4 +1,4 @@
--- The call that a line says, as a function, which computes on whole scripts.
+-- The call of a line, as a function, which computes on whole scripts.
 use Rattle.std.specs.Prelude.{ℕ, if◌then◌else◌, List, [], ◌∷◌, Option, Some, None, codes}
 use Rattle.std.specs.Option.{option_map_or}
 use Rattle.std.specs.Str.{bytes_eq}
@@ -14,7 +14,7 @@ use Rattle.sfu_script.specs.declared.commands.SubscriberCommand.{SubscriberComma
 use Rattle.sfu_script.specs.declared.commands.SubscriberCommand.TheVariants as of_subscriber
 use Rattle.sfu_script.specs.declared.fields.Field.TheVariants.{Number8, Number16, Number32, Number64, Ssrc}
 
--- ---- a call of one, two, three or six numbers
+-- ---- the call with one, two, three or six numbers
 
 abbrev pub of_one : (ℕ → Call) → List ℕ → Option Call
 of_one call (a ∷ []) = Some (call a)
@@ -32,9 +32,9 @@ abbrev pub of_six : (ℕ → ℕ → ℕ → ℕ → ℕ → ℕ → Call) → L
 of_six call (a ∷ b ∷ c ∷ d ∷ e ∷ f ∷ []) = Some (call a b c d e f)
 of_six call numbers = None
 
--- ---- what follows the first word
+-- ---- the words after the first one
 
--- after `publish`: the track, and then by the word of its kind
+-- after `publish`: the track, and then the words that depend on its kind
 abbrev pub plain_of : ℕ → List ℕ → Option Call
 plain_of track rest = fields_of (Ssrc ∷ Number32 ∷ []) rest >>= of_two (λ ssrc hold. Publish track Plain ssrc hold)
 
@@ -66,7 +66,7 @@ packet_of rest = do
   bytes ← bytes_of head.2
   Some (Packet head.0 head.1 bytes)
 
--- the call of a track's command with these words after it
+-- the call of a track's command with these further words
 abbrev pub track_call_of : TrackCommand → List ℕ → Option Call
 track_call_of of_track.Publish rest = publish_of rest
 track_call_of of_track.Unpublish rest = fields_of (Number32 ∷ []) rest >>= of_one (λ track. Unpublish track)
@@ -75,7 +75,7 @@ track_call_of of_track.Tick rest = fields_of (Number32 ∷ Number64 ∷ []) rest
 track_call_of of_track.Missing rest = fields_of (Number32 ∷ []) rest >>= of_one (λ track. Missing track)
 track_call_of of_track.Key rest = fields_of (Number32 ∷ []) rest >>= of_one (λ track. KeyWanted track)
 
--- the call of a subscriber's command with these words after it
+-- the call of a subscriber's command with these further words
 abbrev pub subscriber_call_of : SubscriberCommand → List ℕ → Option Call
 subscriber_call_of of_subscriber.Join rest =
     fields_of (Number32 ∷ Number32 ∷ Ssrc ∷ Number16 ∷ Number8 ∷ Number8 ∷ []) rest
@@ -89,12 +89,12 @@ subscriber_call_of of_subscriber.Resend rest = fields_of (Number32 ∷ Number16 
 subscriber_call_of of_subscriber.Plead rest = fields_of (Number32 ∷ []) rest >>= of_one (λ subscriber. Plead subscriber)
 subscriber_call_of of_subscriber.Why rest = fields_of (Number32 ∷ Number64 ∷ []) rest >>= of_two (λ subscriber number. Why subscriber number)
 
--- the call of a first word with these words after it
+-- the call of a first word with these further words
 abbrev pub command_of : List ℕ → List ℕ → Option Call
 command_of word rest =
     option_map_or (λ command. track_call_of command rest) (track_command_of word) (subscriber_command_of word >>= (λ command. subscriber_call_of command rest))
 
--- the call that a line says
+-- the call of a line
 abbrev pub call_of : List ℕ → Option Call
 call_of line = do
   parts ← cut line

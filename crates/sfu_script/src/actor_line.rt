@@ -1,4 +1,4 @@
-// A line with an actor's call. Actors run at the same time.
+// A line with a call of an actor. Actors run at the same time.
 ghost use Rattle.std.specs.Prelude.{◌≡◌, IfOk, OnErr, ℕ};
 ghost use Rattle.std.specs.Result.{result_ok};
 ghost use Rattle.sfu_base.specs.declared.call.Call.{Call};
@@ -28,7 +28,8 @@ fn actor_call(line: &[u8]) -> Result<(u8, Call), NoLine>
     Ok((actor, call))
 }
 
-/// Reads a line `@K line` as an actor, 1 to 8, and a call. `NoLine` exactly when it isn't one. Takes no memory.
+/// Reads a line `@K LINE`, where K is the actor, 1 to 8, and LINE is the line of a call.
+/// Returns `NoLine` exactly when the line isn't of this form. Allocates no memory.
 pub fn read_actor_line(line: &[u8]) -> Result<(u8, Call), NoLine>
     ensures value { result_ok result ≡ actor_call_of line.now }
     ensures ok { IfOk result (λ said. IsActorLine said.0 said.1 line.now) }

@@ -1,4 +1,4 @@
-// The command names, which are the first words of lines.
+// The names of commands: the first words of lines.
 ghost use Rattle.std.specs.Prelude.{◌≡◌};
 ghost use Rattle.sfu_script.specs.Commands.{subscriber_command_of, track_command_of};
 
@@ -25,7 +25,7 @@ pub enum SubscriberCommand {
     Why,
 }
 
-/// The command about a track with this name; `None` if there is none.
+/// Returns the command about a track that has this name, or `None` if there is none.
 pub fn track_command(word: &[u8]) -> Option<TrackCommand>
     ensures { result ≡ track_command_of word.now }
 {
@@ -40,7 +40,7 @@ pub fn track_command(word: &[u8]) -> Option<TrackCommand>
     }
 }
 
-/// The command about a subscriber with this name; `None` if there is none.
+/// Returns the command about a subscriber that has this name, or `None` if there is none.
 pub fn subscriber_command(word: &[u8]) -> Option<SubscriberCommand>
     ensures { result ≡ subscriber_command_of word.now }
 {

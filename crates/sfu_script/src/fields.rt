@@ -35,8 +35,8 @@ impl Field {
     }
 }
 
-/// Reads a text as numbers: one word for each field in `places`, with one space between words. `NoLine` exactly when the text isn't
-/// of this form, or `places` is empty. Takes no memory.
+/// Reads a text as numbers: one word for each field of `places`, with one space between words. Returns
+/// `NoLine` exactly when the text isn't of this form or `places` is empty. Allocates no memory.
 pub fn read_fields<const N: usize>(places: &[Field; N], text: &[u8]) -> Result<[u64; N], NoLine>
     ensures value { MatchResult result (λ numbers. fields_of places.now text.now ≡ Some numbers) (λ _. fields_of places.now text.now ≡ None) }
     ensures within { IfOk result (λ numbers. AreWithin places.now numbers) }

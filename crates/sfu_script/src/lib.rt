@@ -6,6 +6,7 @@ mod actor_line;
 mod commands;
 mod fields;
 mod hex_text;
+mod kept_calls;
 mod laws;
 mod line_reader;
 mod lines;
@@ -18,6 +19,7 @@ mod words;
 
 pub use actor_line::read_actor_line;
 pub use fields::{Field, read_fields};
+pub use kept_calls::{KeptCalls, set_packet, set_take, set_tick};
 pub use laws::{
     lines_read_back, lines_say_one_call, reads_exactly_the_actors_lines, reads_exactly_the_lines,
     reads_exactly_the_packets, reads_exactly_the_ports, replies_say_one_answer,

@@ -43,7 +43,7 @@ pub fn call(line: &[u8]) -> Result<Call, NoLine>
     behind(word, rest)
 }
 
-/// Reads a line, without its line end, as a call. `NoLine` exactly when the line says no call. Takes no memory.
+/// Reads a line, without its line end, as a call. Returns `NoLine` exactly when the grammar assigns no call to the line. Allocates no memory.
 pub fn read_call(line: &[u8]) -> Result<Call, NoLine>
     ensures value { result_ok result ≡ call_of line.now }
     ensures ok { IfOk result (λ said. IsLine said line.now) }

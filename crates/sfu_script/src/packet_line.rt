@@ -14,15 +14,15 @@ pub struct PacketReader {
 }
 
 impl PacketReader {
-    /// A reader that has read no line.
+    /// Returns a reader that has read no line.
     pub fn new() -> PacketReader {
         PacketReader {
             room: [0; MOST_BYTES],
         }
     }
 
-    /// Fills `out` with the 1 to 2,048 bytes that a line has in hex digits. `NoLine` exactly when the line isn't of this form; `out` is
-    /// then unchanged. Takes no memory.
+    /// Fills `out` with the 1 to 2,048 bytes of a line of hex digits. Returns `NoLine` exactly
+    /// when the line isn't of this form, and then leaves `out` unchanged. Allocates no memory.
     pub fn read(&mut self, line: &[u8], out: &mut PacketBuf) -> Result<(), NoLine>
         ensures value { MatchResult result (λ _. bytes_of line.now ≡ Some out.new) (λ _. bytes_of line.now ≡ None) }
         ensures ok { OnOk result (Fills (Hex out.new) line.now) }
@@ -41,8 +41,8 @@ impl Default for PacketReader {
     }
 }
 
-/// Fills `out` with the 1 to 2,048 bytes that a line has in hex digits. `NoLine` exactly when the line isn't of this form; `out` is
-/// then unchanged. Takes no memory.
+/// Fills `out` with the 1 to 2,048 bytes of a line of hex digits. Returns `NoLine` exactly
+/// when the line isn't of this form, and then leaves `out` unchanged. Allocates no memory.
 pub fn read_packet(line: &[u8], out: &mut PacketBuf) -> Result<(), NoLine>
     ensures value { MatchResult result (λ _. bytes_of line.now ≡ Some out.new) (λ _. bytes_of line.now ≡ None) }
     ensures ok { OnOk result (Fills (Hex out.new) line.now) }

@@ -1,4 +1,4 @@
-// The lines that name the UDP ports to serve, and what each port is for.
+// The lines that name the UDP ports of `serve`, and the role of each port.
 ghost use Rattle.std.specs.Prelude.{◌≡◌, ℕ, IfOk, OnErr};
 ghost use Rattle.std.specs.Result.{result_ok};
 ghost use Rattle.sfu_script.specs.declared.ports.PortLine.{PortLine};
@@ -11,8 +11,8 @@ use crate::fields::read_fields;
 use crate::words::{number8, number16, split, split_at};
 use sfu_base::Address;
 
-/// What a port is for. `ssrc` is the publisher's own SSRC, or that of the packets forwarded to the subscriber. `rtx_ssrc` and
-/// `payload_type` are the SSRC and the payload type of the subscriber's retransmissions.
+/// The role of a port. `ssrc` is the SSRC of the publisher, or that of the packets forwarded to the subscriber.
+/// `rtx_ssrc` and `payload_type` are the SSRC and the payload type of the subscriber's retransmissions.
 #[derive(Clone, Copy, Debug, PartialEq, Eq)]
 pub enum PortRole {
     /// Receives the packets of a track.
@@ -36,7 +36,7 @@ pub enum PortRole {
     },
 }
 
-/// A port to serve: its own address, its peer's address, and what it is for.
+/// A port to serve: its own address, its peer's address, and its role.
 #[derive(Clone, Copy, Debug, PartialEq, Eq)]
 pub struct PortLine {
     pub local: Address,
@@ -88,7 +88,7 @@ fn subscriber(rest: &[u8]) -> Result<PortRole, NoLine>
     })
 }
 
-// Whether retransmissions differ from other packets by SSRC (RFC 4588, section 5.3), and from RTCP by payload type (RFC 5761, section 4).
+// Returns whether retransmissions differ from other packets by SSRC (RFC 4588, section 5.3), and from RTCP by payload type (RFC 5761, section 4).
 fn are_apart(ssrc: u32, rtx_ssrc: u32, payload_type: u8) -> bool
     ensures { (subscriber : ℕ) → result ≡ is_apart (Rtx subscriber ssrc rtx_ssrc payload_type) }
 {
@@ -158,9 +158,9 @@ fn port(line: &[u8]) -> Result<PortLine, NoLine>
     }
 }
 
-/// Reads a line `port LOCAL PEER ROLE`. Both addresses are `a.b.c.d:port`. The role is `publisher T SSRC`, `subscriber S
-/// SSRC`, `control`, or `rtx S SSRC RTXSSRC PT`. In the last, RTXSSRC differs from SSRC, and PT is 0 to 63 or 96 to 127. `NoLine` exactly
-/// when the line isn't of this form. Takes no memory.
+/// Reads a line `port LOCAL PEER ROLE`. Both addresses are `a.b.c.d:port`. The role is `publisher T SSRC`,
+/// `subscriber S SSRC`, `control`, or `rtx S SSRC RTXSSRC PT`. In `rtx`, RTXSSRC differs from SSRC, and PT
+/// is 0 to 63 or 96 to 127. Returns `NoLine` exactly when the line isn't of this form. Allocates no memory.
 pub fn read_port(line: &[u8]) -> Result<PortLine, NoLine>
     ensures value { result_ok result ≡ port_of line.now }
     ensures ok { IfOk result (λ said. IsPortLine said line.now) }

@@ -78,7 +78,7 @@ fn numbers(call: &Call) -> [u64; 7] {
     }
 }
 
-// Lines of the grammar, each with its call. Numbers are 0 and the greatest of their type.
+// Lines of the grammar, each with its call. The numbers in them are 0 and the greatest of their type.
 const LINES: [(&[u8], [u64; 7]); 33] = [
     (
         b"publish 1 plain 11111111 100",

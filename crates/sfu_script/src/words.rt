@@ -7,7 +7,7 @@ ghost use Rattle.sfu_script.specs.Reading.{cut, cut_at, field, number_of, ssrc_o
 
 use crate::NoLine;
 
-/// The text before the first byte `mark`, and the text after it; `NoLine` if there is no such byte.
+/// Returns the text before the first byte `mark`, and the text after it. Returns `NoLine` if the text has no such byte.
 #[inline(always)]
 pub fn split_at(text: &[u8], mark: u8) -> Result<(&[u8], &[u8]), NoLine>
     ensures { MatchResult result (λ parts. cut_at mark text.now ≡ Some (parts.0.now, parts.1.now)) (λ _. cut_at mark text.now ≡ None) }
@@ -20,14 +20,14 @@ pub fn split_at(text: &[u8], mark: u8) -> Result<(&[u8], &[u8]), NoLine>
     Err(NoLine)
 }
 
-/// The text before the first space, and the text after it; `NoLine` if none. Takes no memory.
+/// Returns the text before the first space, and the text after it. Returns `NoLine` if the text has no space. Allocates no memory.
 pub fn split(text: &[u8]) -> Result<(&[u8], &[u8]), NoLine>
     ensures { MatchResult result (λ parts. cut text.now ≡ Some (parts.0.now, parts.1.now)) (λ _. cut text.now ≡ None) }
 {
     split_at(text, b' ')
 }
 
-// The value of at most 19 decimal digits; it always fits into 64 bits. `None`: not all are digits.
+// Returns the value of at most 19 decimal digits, which always fits into 64 bits. Returns `None` if some byte isn't a digit.
 fn short_decimal(word: &[u8]) -> Option<u64>
     requires { length word.now ≤ 19 }
     ensures { result ≡ (if all_ascii_digits word.now && nat_lt (digits_value 10 word.now) (2 ^ 64) then Some (digits_value 10 word.now) else None) }
@@ -42,7 +42,7 @@ fn short_decimal(word: &[u8]) -> Option<u64>
     Some(number)
 }
 
-// The value of decimal digits. `None`: not all are digits, or the value is 2^64 or more.
+// Returns the value of decimal digits. Returns `None` if some byte isn't a digit, or if the value is 2^64 or more.
 fn decimal(word: &[u8]) -> Option<u64>
     ensures { result ≡ (if all_ascii_digits word.now && nat_lt (digits_value 10 word.now) (2 ^ 64) then Some (digits_value 10 word.now) else None) }
 {
@@ -74,29 +74,29 @@ pub fn number64(word: &[u8]) -> Result<u64, NoLine>
     decimal(word).ok_or(NoLine)
 }
 
-/// As `number64`, for 32 bits.
+/// Does the same as `number64`, for 32 bits.
 pub fn number32(word: &[u8]) -> Result<u32, NoLine>
     ensures { result_ok result ≡ number_of 32 word.now }
 {
     u32::try_from(number64(word)?).ok().ok_or(NoLine)
 }
 
-/// As `number64`, for 16 bits.
+/// Does the same as `number64`, for 16 bits.
 pub fn number16(word: &[u8]) -> Result<u16, NoLine>
     ensures { result_ok result ≡ number_of 16 word.now }
 {
     u16::try_from(number64(word)?).ok().ok_or(NoLine)
 }
 
-/// As `number64`, for 8 bits.
+/// Does the same as `number64`, for 8 bits.
 pub fn number8(word: &[u8]) -> Result<u8, NoLine>
     ensures { result_ok result ≡ number_of 8 word.now }
 {
     u8::try_from(number64(word)?).ok().ok_or(NoLine)
 }
 
-// The number before the first space, and the text after the space, if the space is among the first 19 bytes. Each byte is read once, and
-// the value needs no overflow check. `None` says nothing about the text.
+// Returns the number before the first space, and the text after the space, if the space is among the first 19
+// bytes. It reads each byte once, and the value needs no overflow check. `None` says nothing about the text.
 #[inline(always)]
 fn short_leading(text: &[u8]) -> Option<(u64, &[u8])>
     ensures { IfSome result (λ x. field (number_of 64) text.now ≡ Some (x.0, x.1.now)) }
@@ -121,7 +121,7 @@ fn short_leading(text: &[u8]) -> Option<(u64, &[u8])>
     None
 }
 
-// As `leading64`, for numbers of any length. Out of line: the callers contain only the code for short numbers.
+// Does the same as `leading64`, for numbers of any length. Out of line: the callers then contain only the code for short numbers.
 #[inline(never)]
 fn any_leading(text: &[u8]) -> Result<(u64, &[u8]), NoLine>
     ensures { MatchResult result (λ x. field (number_of 64) text.now ≡ Some (x.0, x.1.now)) (λ _. field (number_of 64) text.now ≡ None) }
@@ -130,7 +130,7 @@ fn any_leading(text: &[u8]) -> Result<(u64, &[u8]), NoLine>
     Ok((number64(word)?, rest))
 }
 
-/// The number before the first space, as `number64` reads it, and the text after the space.
+/// Returns the number before the first space, as `number64` reads it, and the text after the space.
 #[inline(always)]
 pub fn leading64(text: &[u8]) -> Result<(u64, &[u8]), NoLine>
     ensures { MatchResult result (λ x. field (number_of 64) text.now ≡ Some (x.0, x.1.now)) (λ _. field (number_of 64) text.now ≡ None) }
@@ -141,7 +141,7 @@ pub fn leading64(text: &[u8]) -> Result<(u64, &[u8]), NoLine>
     any_leading(text)
 }
 
-/// As `leading64`, for a number of 32 bits.
+/// Does the same as `leading64`, for a number of 32 bits.
 #[inline(always)]
 pub fn leading32(text: &[u8]) -> Result<(u32, &[u8]), NoLine>
     ensures { MatchResult result (λ x. field (number_of 32) text.now ≡ Some (x.0, x.1.now)) (λ _. field (number_of 32) text.now ≡ None) }

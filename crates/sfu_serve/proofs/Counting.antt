@@ -1,10 +1,10 @@
--- How many calls a deed makes at most, if the datagrams that come fit buffers.
+-- The greatest number of calls that a deed makes, if the datagrams that come fit buffers.
 use Rattle.std.proofs.Common.{ℕ, ◌≤◌, ◌+◌, ◌-◌, List, [], ◌∷◌, length, subst, arith, Option}
 use Rattle.session_steps.specs.Deeds.{Deed, Step, Listen, Ask, Post, Over, Heard, Said, Posted, Leads, received_of, said_of}
 use Rattle.sfu_serve.specs.Doing.{AllFitBuffers, FitsBuffer}
 
 module _ {C A D : Type 0} where
-  -- for all receives and answers, at most this many calls are made
+  -- for all receives and answers, at most this number of calls is made
   abbrev pub AsksAtMost : Deed C A D → ℕ → Type 0
   AsksAtMost (Listen f) n = (got : Option (List ℕ)) (moment : ℕ) → FitsBuffer got → AsksAtMost (f got moment) n
   AsksAtMost (Ask call f) n = (1 ≤ n) × ((answer : A) → AsksAtMost (f answer) (n - 1))
@@ -26,7 +26,7 @@ module _ {C A D : Type 0} where
       let same : n ≤ 1 + n - 1 = omega arith in
       (omega arith, λ answer. asks_more (f answer) n (1 + n - 1) same (p answer))
 
-  -- steps of such a deed have at most this many calls
+  -- steps of such a deed have at most this number of calls
   pub few_said : (IsOne : D → List ℕ → Type 0) (d : Deed C A D) (ss : List (Step C A)) (rest : Deed C A D) (n : ℕ) → Leads IsOne d ss rest → AllFitBuffers (received_of ss) → AsksAtMost d n → length (said_of ss) ≤ n
   few_said IsOne d [] rest n p short m = omega arith
   few_said IsOne (Listen f) (Heard got moment ∷ ss) rest n p short m =

@@ -41,7 +41,7 @@ module _ {C A D : Type 0} (reply : List (Entry C) → C → A) (starved : A) (Ma
     fits = fits;
   }
 
-  -- a part is done after what came before it
+  -- a part is done after the parts before it
   pub joins : (whole mid rest : Deed C A D) (a b c : Known C) (told told' told'' : Option Traffic) (x y z m n : ℕ)
       → Done whole mid a b told told' x y m → Done mid rest b c told' told'' y z n → Done whole rest a c told told'' x z (m + n)
   joins whole mid rest a b c told told' told'' x y z m n p q = record {
@@ -97,7 +97,7 @@ module _ {C A D : Type 0} (reply : List (Entry C) → C → A) (starved : A) (Ma
     fits = fits;
   }
 
-  -- one call: its entry follows a history, and its answer is the one of that history
+  -- one call: its entry follows a history, and its answer is that of this history
   pub says : (call : C) (f : A → Deed C A D) (answer : A) (is_starved : Bool) (gives : List (Entry C) → Type 0) (place : ℕ) (old new : Known C) (told : Option Traffic) (faults : ℕ)
       → Fits old → MakesTurn old new (entry old.number call is_starved) place gives → ((h : List (Entry C)) → gives h → (if is_starved then starved else reply h call) ≡ answer)
       → ((h : List (Entry C)) → gives h → answer ≡ starved → MayStarve call) → ((h : List (Entry C)) → gives h → Holds (h ++ entry old.number call is_starved ∷ [])) → Fits new
@@ -126,7 +126,7 @@ module _ {C A D : Type 0} (reply : List (Entry C) → C → A) (starved : A) (Ma
         fits = fits';
       }
 
-  -- a failing call on the link leaves its traffic, and nothing that was done before it failed
+  -- a failing call on the link leaves its traffic, and everything that was done before it
   pub still : (whole rest : Deed C A D) (old new : Known C) (told told' told'' : Option Traffic) (faults faults' turns : ℕ)
       → Done whole rest old new told told' faults faults' turns → told'' ≡ told' → Done whole rest old new told told'' faults faults turns
   still whole rest old new told told' told'' faults faults' turns d same = record {

@@ -1,4 +1,4 @@
--- A session makes at most 10,000 calls a turn.
+-- A session makes at most 10,000 calls per turn.
 use Rattle.std.proofs.Common.{◌≤◌, ◌+◌, ◌*◌, ◌%◌, ℕ, zero, suc, Bool, true, false, if◌then◌else◌, ◌==◌, ◌&&◌, List, [], ◌∷◌, length, arith, Option}
 use Rattle.std.specs.Prelude.{None, Some}
 use Rattle.sfu_base.specs.Answer.{Answer, Sent, Named}

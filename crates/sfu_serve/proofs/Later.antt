@@ -1,4 +1,4 @@
--- A session's contract, read in a later history.
+-- A session's contract, as seen in a later history.
 use Rattle.std.proofs.Common.{◌≡◌, ℕ, ◌*◌, ◌^◌, List, [], ◌++◌, ap, sym, subst, ◌∙◌, Option}
 use mathlib.Core.List.{IsPrefix}
 use Rattle.sfu_base.specs.Answer.{Answer, Refused}
@@ -19,7 +19,7 @@ use Rattle.session_steps.specs.Sessions.{Doing}
 use Rattle.sfu_serve.specs.Parts.{Keeps, MeetsEnd, reply_after, words_of}
 use Rattle.sfu_serve.specs.Runs.{IsSession}
 
--- the end of a session whose seat's number found is that of a later seat, where it is the greatest one
+-- the end of a session whose seat found the number that a later seat has, if that is the greatest number
 pub ends_later : (before after found found' limit : ℕ) (rest : Doing) (turns : ℕ) (end : SessionEnd) → (found ≡ 2 ^ 63 → found' ≡ 2 ^ 63) → MeetsEnd before after found limit rest turns end → MeetsEnd before after found' limit rest turns end
 ends_later before after found found' limit Over turns AllTurns p e = e
 ends_later before after found found' limit Over turns (LinkFault turn) p e = absurd e
@@ -34,7 +34,7 @@ ends_later before after found found' limit (Ask call f) turns AllTurns p e = abs
 ends_later before after found found' limit (Ask call f) turns (LinkFault turn) p e = absurd e
 ends_later before after found found' limit (Ask call f) turns Worn p e = (e.0, p e.1, e.2)
 
--- the calls of a seat that had no entries are those of its session, in each later history in which the seat has no more
+-- the calls of a seat that had no entries are those of its session, in each later history in which the seat has no further entries
 pub later_words : (P : Call → Type 0) (whole : Doing) (limit : ℕ) (old new : Known Call) (history : List (Entry Call)) (told told' : Option Traffic) (before after : ℕ) (end : SessionEnd)
     → (k : Keeps P whole limit old new told told' before after end) → own_of old.number old.seen ≡ [] → IsPrefix new.seen history → own_of old.number history ≡ new.own → words_of old.number history ≡ said_of k.done.steps
 later_words P whole limit old new history told told' before after end k none pre own =
@@ -45,14 +45,14 @@ later_words P whole limit old new history told told' before after end k none pre
     let start : words_of old.number old.seen ≡ [] = words_none reply_after (Refused NoMemory) [] old.number old.seen none in
     same ∙ (ap (λ (m : ℕ). words_of m new.seen) (sym n) ∙ (d.words ∙ ap (λ (l : List (Word Call Answer)). l ++ said_of d.steps) start))
 
--- and memory ran out only for calls that may find none
+-- and memory ran out only for calls that may run out of memory
 pub later_memory : (P : Call → Type 0) (whole : Doing) (limit : ℕ) (old new : Known Call) (history : List (Entry Call)) (told told' : Option Traffic) (before after : ℕ) (end : SessionEnd)
     → Keeps P whole limit old new told told' before after end → own_of old.number old.seen ≡ [] → IsPrefix new.seen history → own_of old.number history ≡ new.own
     → StarveWhereTheyMay (Refused NoMemory) P (words_of old.number history)
 later_memory P whole limit old new history told told' before after end k none pre own =
     subst (λ (l : List (Word Call Answer)). StarveWhereTheyMay (Refused NoMemory) P l) (sym (later_words P whole limit old new history told told' before after end k none pre own)) k.done.memory
 
--- a session of a seat with no entries is in each later history in which the seat has no more
+-- a session of a seat with no earlier entries is in each later history in which the seat has no further entries
 pub is_session : (P : Call → Type 0) (whole : Doing) (limit found : ℕ) (old new : Known Call) (history : List (Entry Call)) (told told' : Option Traffic) (before after : ℕ) (end : SessionEnd)
     → Keeps P whole limit old new told told' before after end → own_of old.number old.seen ≡ [] → IsPrefix new.seen history → own_of old.number history ≡ new.own → (new.found ≡ 2 ^ 63 → found ≡ 2 ^ 63)
     → AsksAtMost whole (10000 * limit) → IsSession whole limit old.number found history told told' before after end

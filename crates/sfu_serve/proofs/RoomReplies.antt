@@ -1,4 +1,4 @@
--- What a session relies on in a reply is true of each reply of a room, for every history.
+-- What a session requires of a reply is true of each reply of a room, for every history.
 use Rattle.std.proofs.Common.{◌≡◌, ◌∙◌, ◌<◌, ℕ, List, length, ap, sym, arith, false}
 use Rattle.sfu_base.specs.Answer.{answer_of, is_starved}
 use Rattle.sfu_base.specs.declared.call.Call.{Call}

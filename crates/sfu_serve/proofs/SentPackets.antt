@@ -1,4 +1,4 @@
--- Sessions of subscribers send the packets that their takes and resends returned, as they are sent.
+-- Sessions of subscribers send the packets that their takes and resends returned, in the form in which they are sent.
 use Rattle.std.proofs.Common.{◌≡◌, ℕ, zero, suc, ◌+◌, ◌%◌, Bool, true, false, if◌then◌else◌, cond, ◌==◌, List, [], ◌∷◌, ◌++◌, refl, ap, sym, subst, ◌∙◌, append-nil, map, arith, Option}
 use Rattle.std.proofs.lemmas.List.{map-append}
 use Rattle.std.specs.Prelude.{None, Some}
@@ -79,7 +79,7 @@ all_given : Option Rtx → ℕ → List (Word Call Answer) → List Datagram
 all_given way i [] = []
 all_given way i (word ∷ words) = given_on way i word.call word.answer ++ all_given way (count_on i word.call word.answer) words
 
--- the two definitions say the same of the room's answer
+-- the two definitions agree on the room's answer
 no_packet : (way : Option Rtx) (i : ℕ) (said : Call) (a : Answer) → packet_of a ≡ packet_given said a
     → (given_on way i said a ≡ datagram_given way i said a) × (count_on i said a ≡ resent_then i said a)
 unfolding given_on count_on
@@ -106,9 +106,9 @@ words_only way i before n (e ∷ h) =
         ∙ ap (λ (l : List Datagram). datagram_given way i w.call w.answer ++ l) (ap (λ (j : ℕ). all_given way j ws) same.1 ∙ others (resent_then i w.call w.answer))
     if_word false w ws here others = others i
 
--- ---- each packet that is returned is sent next, and nothing else is
+-- ---- each packet that is returned is sent next, and no other is
 
--- the deed first sends what is owed, after this many resends returned packets
+-- the deed first sends the packets that remain to be sent, after this number of resends returned packets
 Owes : Option Rtx → ℕ → Doing → List Datagram → Type 0
 Owes way i (Listen f) owed = (owed ≡ []) × ((got : Option (List ℕ)) (moment : ℕ) → Owes way i (f got moment) [])
 Owes way i (Ask call f) owed = (owed ≡ []) × ((answer : Answer) → Owes way (count_on i call answer) (f answer) (given_on way i call answer))
@@ -157,7 +157,7 @@ module _ (way : Option Rtx) where
   chosen i true d e p q = p
   chosen i false d e p q = q
 
-  -- what comes next is right for each count of resent packets, with the number that is left of it
+  -- the rest is right for each count of resent packets, with the number that remains of it
   AllOwe : (ℕ → Doing) → Type 0
   AllOwe next = (i : ℕ) → Owes way i (next (i % 65536)) []
 

@@ -22,19 +22,19 @@ use Rattle.sfu_serve.specs.Replies.{IsReplied, MayStarve}
 use Rattle.sfu_serve.proofs.Replying.{holds_by, starved_by, told_by}
 use Rattle.sfu_serve.specs.Parts.{Done, FailedOnce, HasHeadline, Keeps, NoneMayStarve, reply_after}
 
--- ---- what is left
+-- ---- the rest of a session
 
--- what is left, in other words
+-- the rest, in an equal form
 pub leaves : {P : Call → Type 0} {whole : Doing} {a b : Known Call} {told told' : Option Traffic} {x y n : ℕ} (mid rest : Doing) → mid ≡ rest → Done P whole mid a b told told' x y n → Done P whole rest a b told told' x y n
 leaves {P = P} {whole = whole} {a = a} {b = b} {told = told} {told' = told'} {x = x} {y = y} {n = n} mid rest same d = subst (λ (r : Doing). Done P whole r a b told told' x y n) same d
 
--- a step without a receive after what came before it
+-- a step without a receive, after the steps before it
 pub after : {P : Call → Type 0} {whole mid rest : Doing} {a b c : Known Call} {told told' told'' : Option Traffic} {x y z n : ℕ} → Done P whole mid a b told told' x y n → Done P mid rest b c told' told'' y z 0 → Done P whole rest a c told told'' x z n
 after {P = P} {whole = whole} {mid = mid} {rest = rest} {a = a} {b = b} {c = c} {told = told} {told' = told'} {told'' = told''} {x = x} {y = y} {z = z} {n = n} p q =
     let same : n + 0 ≡ n = omega arith in
     subst (λ (m : ℕ). Done P whole rest a c told told'' x z m) same (doing.joins reply_after (Refused NoMemory) P IsOne HasHeadline whole mid rest a b c told told' told'' x y z n 0 p q)
 
--- what is done without a call is done whichever calls may run out of memory
+-- a part without a call is done, whichever calls may run out of memory
 silent : {P : Call → Type 0} {whole rest : Doing} {a b : Known Call} {told told' : Option Traffic} {x y n : ℕ} → Done NoneMayStarve whole rest a b told told' x y n → Done P whole rest a b told told' x y n
 silent {P = P} {whole = whole} {rest = rest} {a = a} {b = b} {told = told} {told' = told'} {x = x} {y = y} {n = n} d =
     doing.widens reply_after (Refused NoMemory) NoneMayStarve P IsOne HasHeadline whole rest a b told told' x y n (λ call none. absurd none) d
@@ -62,7 +62,7 @@ pub emits_not : {T E : Type 0} (r : Result T E) (output : Output) (bytes : List 
 emits_not (Ok value) output bytes told told' x y is link cause = tt
 emits_not (Err why) output bytes told told' x y is link cause = (is, link, record { never_falls = cause.never_falls; counts = cause.counts })
 
--- ---- the steps of a session, after what it did before; `left` tells what is left of it by how many turns are left
+-- ---- the steps of a session, after those before; `left` says what remains of it for each number of remaining turns
 
 -- before the first turn
 pub starts : {P : Call → Type 0} (left : ℕ → Doing) (limit : ℕ) (seat : Known Call) (told : Option Traffic) (faults : ℕ) → Fits seat → Done P (left limit) (left (limit - 0)) seat seat told told faults faults 0
@@ -109,7 +109,7 @@ module _ {P : Call → Type 0} {whole : Doing} {old : Known Call} {told : Option
   over_at (Post what next) limit new told' y waits d = absurd waits
 
   module _ (left : ℕ → Doing) (limit turn : ℕ) (new : Known Call) (told' : Option Traffic) (y : ℕ) (waits : (turns : ℕ) → Waits (left turns) turns) (d : Done P whole (left (limit - turn)) old new told told' x y turn) where
-    -- there is one more turn, and its receive brought something, or nothing
+    -- there is one more turn, and its receive returned a datagram or none
     pub hears : (came : Bool) (bytes : List ℕ) (moment : ℕ) (told'' : Option Traffic) (z : ℕ) → turn < limit → length bytes ≤ 2048 → told'' ≡ with_more (datagram came bytes ∷ []) [] told' → z ≡ y
         → Done P whole (heard (left (suc (limit - (turn + 1)))) (datagram came bytes) moment) old new told told'' x z (turn + 1)
     hears came bytes moment told'' z less short link calm =
@@ -117,14 +117,14 @@ module _ {P : Call → Type 0} {whole : Doing} {old : Known Call} {told : Option
         hears_at (left (suc (limit - (turn + 1)))) (limit - (turn + 1)) came bytes moment new told' told'' y z turn (waits (suc (limit - (turn + 1))))
         (subst (λ (n : ℕ). Done P whole (left n) old new told told' x y turn) same d) short link calm
 
-    -- its receive failed
+    -- the turn's receive failed
     pub unheard : (told'' : Option Traffic) (z : ℕ) → turn < limit → told'' ≡ told' → FailedOnce y z → Keeps P whole limit old new told told'' x z (LinkFault turn)
     unheard told'' z less link once =
         let same : limit - turn ≡ suc (limit - (turn + 1)) = omega (arith, less) in
         unheard_at (left (suc (limit - (turn + 1)))) (limit - (turn + 1)) limit turn new told' told'' y z (waits (suc (limit - (turn + 1)))) less
         (subst (λ (n : ℕ). Done P whole (left n) old new told told' x y turn) same d) link once
 
-    -- no turn is left
+    -- no turn remains
     pub ends : turn ≡ limit → Keeps P whole limit old new told told' x y AllTurns
     ends all =
         let none : limit - turn ≡ 0 = omega (arith, all) in
@@ -171,7 +171,7 @@ said may_refuse left call given bytes numbers place b c told faults asks fits tu
     doing.says reply_after (Refused NoMemory) (MayStarve may_refuse) IsOne HasHeadline call f (answer_of given bytes numbers) (is_starved given) _ place b c told faults fits turn
     (λ h. told_by may_refuse h b.number call given bytes numbers) (λ h. starved_by may_refuse h b.number call given bytes numbers) (λ h. holds_by may_refuse h b.number call given bytes numbers) fits')
 
--- its reply is one
+-- the turn's reply is one of the room's
 pub replies : (left : Doing) (call : Call) (given : Reply) (bytes names : List ℕ) → Asks left call → IsReplyTo call given bytes names → IsReplyIn left given bytes names
 replies (Ask own f) call given bytes names is told = subst (λ (k : Call). IsReplyTo k given bytes names) is told
 replies (Listen f) call given bytes names is told = absurd is

@@ -1,4 +1,4 @@
--- Steps one after another, and what a link reports of them.
+-- Steps one after another, and the link's report of them.
 use Rattle.std.proofs.Common.{◌≡◌, ℕ, List, [], ◌∷◌, ◌++◌, refl, ap, sym, subst, append-nil, append_assoc, Option, Some, None}
 use Rattle.sfu_base.specs.Links.{Traffic, with_more}
 use Rattle.session_steps.specs.Deeds.{Deed, Step, Heard, Said, Posted, Word, Does, Leads, received_of, said_of, sent_of}
@@ -21,7 +21,7 @@ module _ {C A : Type 0} (starved : A) (MayStarve : C → Type 0) where
   starve_append [] vs p q = q
   starve_append (u ∷ us) vs p q = (p.0, starve_append us vs p.1 q)
 
-  -- where more calls may
+  -- the same if more calls may run out of memory
   pub starve_wider : (Wider : C → Type 0) (us : List (Word C A)) → ((call : C) → MayStarve call → Wider call) → StarveWhereTheyMay starved MayStarve us → StarveWhereTheyMay starved Wider us
   starve_wider Wider [] wide p = tt
   starve_wider Wider (u ∷ us) wide p = (λ was. wide u.call (p.0 was), starve_wider Wider us wide p.1)

@@ -18,7 +18,7 @@ use Rattle.room_core.specs.Views.{key_wanted_on}
 use Rattle.std.specs.Prelude.{is_some}
 use Rattle.session_steps.specs.Datagrams.{is_control}
 
--- an answer that is neither a packet nor names
+-- an answer that is neither a packet nor numbers
 unfoldable pub is_short : Answer → Bool
 is_short (Sent bytes) = false
 is_short (Named numbers) = false

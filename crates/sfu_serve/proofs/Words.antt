@@ -1,4 +1,4 @@
--- The words of a seat in a history that grows.
+-- The words of a seat, its calls with their answers, in a history that grows.
 use Rattle.std.proofs.Common.{◌≡◌, ℕ, suc, length, Bool, true, false, cond, eqb, List, [], ◌∷◌, ◌++◌, refl, ap, sym, ◌∙◌, append-nil, eq-eqb, append_assoc}
 use Rattle.std.proofs.lemmas.List.{append_cancel_left, append_cancel_right}
 use mathlib.Core.List.{IsPrefix}
@@ -46,7 +46,7 @@ module _ {C A : Type 0} where
       ap (words_from reply starved [] n) is ∙ (words_append reply starved [] n h (e ∷ []) ∙ (λ i. same i ++ last i))
 
 module _ {C A : Type 0} where
-  -- a later history in which the seat has no more entries has no more words of it
+  -- a later history in which the seat has no further entries has no further words of it
   pub words_same : (reply : List (Entry C) → C → A) (starved : A) (n : ℕ) (seen seen' : List (Entry C)) (own : List (Entry C)) → IsPrefix seen seen' → own_of n seen ≡ own → own_of n seen' ≡ own → words_from reply starved [] n seen' ≡ words_from reply starved [] n seen
   words_same reply starved n seen seen' own pre had has =
       let none : own_of n pre.0 ≡ [] = nothing own (own_of n pre.0) (ap (λ (l : List (Entry C)). l ++ own_of n pre.0) (sym had) ∙ (sym (own_append n seen pre.0) ∙ (ap (own_of n) pre.1 ∙ has))) in
@@ -57,14 +57,14 @@ module _ {C A : Type 0} where
   as_long true w e ws os same = ap suc same
   as_long false w e ws os same = same
 
-  -- a seat has as many words as entries
+  -- a seat has as many words as it has entries
   pub words_length : (reply : List (Entry C) → C → A) (starved : A) (before : List (Entry C)) (n : ℕ) (h : List (Entry C)) → length (words_from reply starved before n h) ≡ length (own_of n h)
   words_length reply starved before n [] = refl
   words_length reply starved before n (e ∷ h) =
       as_long (eqb e.seat n) (word_at reply starved before e) e (words_from reply starved (before ++ e ∷ []) n h) (own_of n h) (words_length reply starved (before ++ e ∷ []) n h)
 
 module _ {C A : Type 0} where
-  -- the words that a seat gains are those of the entries after what it had seen
+  -- the words that a seat gains are those of the entries that it sees later
   pub words_since : (reply : List (Entry C) → C → A) (starved : A) (n m : ℕ) (seen seen' added : List (Entry C)) (said : List (Word C A)) → n ≡ m → seen' ≡ seen ++ added
       → words_from reply starved [] n seen' ≡ words_from reply starved [] m seen ++ said → words_from reply starved seen n added ≡ said
   words_since reply starved n m seen seen' added said same goes_on more =

@@ -1,4 +1,4 @@
--- How much of a session's rule (a `Deed`) is done, by what a seat of a lock and a link report.
+-- The part of a session's rule (a `Deed`) that is done, as seen by a seat of a lock and a link.
 use Rattle.std.specs.Prelude.{◌≡◌, ◌⊎◌, ℕ, ◌≤◌, List, [], ◌∷◌, ◌++◌, length, Option, Some, None}
 use mathlib.Core.List.{IsPrefix}
 use Rattle.sfu_base.specs.Links.{Traffic, with_more}
@@ -21,22 +21,22 @@ abbrev pub StarveWhereTheyMay : {C A : Type 0} → A → (C → Type 0) → List
 StarveWhereTheyMay starved MayStarve [] = Unit {0}
 StarveWhereTheyMay starved MayStarve (word ∷ words) = (word.answer ≡ starved → MayStarve word.call) × StarveWhereTheyMay starved MayStarve words
 
--- Steps with this many receives lead from the deed `whole` to the deed `rest`, which is left. Meanwhile the seat and the
--- link's report went from old to new, and the link's count of faults from before to after. A call's answer is `reply` of the
--- history before it, or `starved` if its entry says that memory ran out. `MayStarve` says which calls may run out of memory,
--- `IsOne` which bytes are a given datagram. After the seat made a call, `Holds` is true of the history that the seat has
--- seen.
+-- Steps with this many receives lead from the deed `whole` to the deed `rest`, which remains. Meanwhile
+-- the seat and the link's report went from old to new, and the link's count of faults went from before
+-- to after. A call's answer is `reply` of the history before it, or `starved` if its entry says that
+-- memory ran out. `MayStarve` says which calls may run out of memory, and `IsOne` says which bytes a
+-- datagram has. If the seat made a call, `Holds` is true of the history that the seat has seen.
 pub record IsDone {C A D : Type 0} (reply : List (Entry C) → C → A) (starved : A) (MayStarve : C → Type 0) (IsOne : D → List ℕ → Type 0)
     (Holds : List (Entry C) → Type 0) (whole rest : Deed C A D) (old new : Known C) (told told' : Option Traffic) (before after turns : ℕ) : Type 0 where
   pub steps : List (Step C A)
   pub leads : Leads IsOne whole steps rest
-  -- the seat's calls are the earlier ones and then those of the steps, with these answers
+  -- the seat's calls are the earlier ones, followed by those of the steps with these answers
   pub words : words_of reply starved new.number new.seen ≡ words_of reply starved old.number old.seen ++ said_of steps
   -- only calls that may run out of memory did so
   pub memory : StarveWhereTheyMay starved MayStarve (said_of steps)
   -- the history that the seat had seen is a prefix of the history that it has seen
   pub grows : IsPrefix old.seen new.seen
-  -- the seat made no call and has seen no more; or `Holds` is true of the history that it has seen
+  -- either the seat made no call and has seen no more, or `Holds` is true of the history that it has seen
   pub holds : (new.seen ≡ old.seen) ⊎ Holds new.seen
   -- the link also reports the receives and the datagrams of the steps
   pub link : told' ≡ with_more (received_of steps) (sent_of steps) told

@@ -1,4 +1,4 @@
--- What concurrent sessions did together.
+-- The combined effect of concurrent sessions.
 use Rattle.std.specs.Prelude.{◌≡◌, ◌≢◌, IsTrue, ℕ, ◌+◌, ◌*◌, ◌<◌, ◌≤◌, List, [], ◌∷◌, ◌++◌, length, Option, None}
 use Rattle.sfu_base.specs.Links.{Traffic, with_more}
 use Rattle.sfu_base.specs.Answer.{Answer}
@@ -15,7 +15,7 @@ use Rattle.session_steps.specs.Datagrams.{IsOne}
 use Rattle.session_steps.specs.Sessions.{Doing, publisher_deed, subscriber_deed, rtx_deed, control_deed}
 use Rattle.sfu_serve.specs.Parts.{MeetsEnd, words_of}
 
--- the rule of a session of this role, for this many turns
+-- the rule of a session of this role, for `limit` turns
 abbrev pub deed_of : Role → ℕ → Doing
 deed_of (Publisher track ssrc) limit = publisher_deed track ssrc limit None None
 deed_of (Subscriber subscriber ssrc) limit = subscriber_deed subscriber ssrc limit
@@ -27,8 +27,8 @@ abbrev pub CanBe : Role → Type 0
 CanBe (Rtx subscriber ssrc rtx) = (rtx.ssrc ≢ ssrc) × (rtx.payload_type < 128)
 CanBe role = Unit {0}
 
--- A session of the seat with this number, read in any later history. The seat had no entries before. `found` is the greatest ticket number that was
--- found in that history.
+-- A session of the seat with this number, as seen in any later history. The seat had no
+-- entries before. `found` is the greatest ticket number that was found in that history.
 pub record IsSession (whole : Doing) (limit number found : ℕ) (history : List (Entry Call)) (told told' : Option Traffic) (before after : ℕ)
     (end : SessionEnd) : Type 0 where
   pub steps : List (Step Call Answer)
@@ -39,7 +39,7 @@ pub record IsSession (whole : Doing) (limit number found : ℕ) (history : List 
   -- the link also reports the receives and the datagrams of the steps
   pub link : told' ≡ with_more (received_of steps) (sent_of steps) told
   pub short : AllFitBuffers (received_of steps)
-  -- at most 10,000 calls a turn: feedback of 2,048 bytes has at most 8,704 items, and at most 32 takes follow
+  -- at most 10,000 calls per turn: feedback of 2,048 bytes has at most 8,704 items, and at most 32 takes follow
   pub most : length (said_of steps) ≤ 10000 * limit
   pub ends : MeetsEnd before after found limit rest (length (received_of steps)) end
 
@@ -61,7 +61,7 @@ job_before role told faults = record { role = role; told = told; faults = faults
 abbrev pub job_after : SessionEnd → Option Traffic → ℕ → After
 job_after end told faults = record { end = end; told = told; faults = faults }
 
--- each job and its end have a session; the first job has the seat with this number, and each later job the next seat
+-- each job and its end have a session; the first job has the seat with this number, and each later job has the next seat
 abbrev pub AreSessions : ℕ → ℕ → List (Entry Call) → ℕ → List Before → List After → Type 0
 AreSessions limit found history number [] [] = Unit {0}
 AreSessions limit found history number (job ∷ jobs) (ended ∷ others) =
@@ -74,7 +74,7 @@ abbrev pub AllMayStarve : (Call → Type 0) → List (Entry Call) → Type 0
 AllMayStarve MayStarve [] = Unit {0}
 AllMayStarve MayStarve (e ∷ es) = (IsTrue e.starved → MayStarve e.call) × AllMayStarve MayStarve es
 
--- The first seat has seen more of the history: only entries of the jobs' seats, which include each job's session.
+-- The first seat has seen more of the history. The added entries are those of the jobs' seats, and include each job's session.
 pub record HaveRun (MayStarve : Call → Type 0) (limit : ℕ) (old new : Known Call) (jobs : List Before) (ends : List After) : Type 0 where
   pub kept : (new.lock ≡ old.lock) × (new.first ≡ old.first) × (new.number ≡ 0)
   -- the first seat and one seat for each job were made, and the greatest number found never falls

@@ -1,4 +1,4 @@
--- The calls of a seat with their answers, in the history of a lock. Own rule. The code has neither.
+-- The calls of a seat with their answers, in the history of a lock. Own rule. The code has neither of them.
 use Rattle.std.specs.Prelude.{ℕ, ◌==◌, if◌then◌else◌, List, [], ◌∷◌, ◌++◌}
 use Rattle.turn_lock.specs.declared.history.Entry.{Entry}
 use Rattle.session_steps.specs.Deeds.{Word}

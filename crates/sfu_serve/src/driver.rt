@@ -1,4 +1,4 @@
-// The loop that runs a session on the room, with the session's link and the clock.
+// The loop that runs a session on the room. The loop uses the session's link and the clock.
 ghost use Rattle.std.specs.Prelude.{◌≡◌, ℕ, ◌≤◌, [], ◌∷◌, length, IfOk, IfErr};
 ghost use Rattle.sfu_base.specs.Faults.{HasCause};
 ghost use Rattle.sfu_base.specs.Links.{datagram, with_more};
@@ -17,19 +17,19 @@ use sfu_base::{Clock, Failed, Link, PacketBuf, Scratch};
 use std::sync::Wait;
 use turn_lock::{Seat, Turns};
 
-/// What all sessions of a run share.
+/// The state that all sessions of a run share.
 #[derive(Drop)]
 pub struct Stage<'a, R: Recorder, C, W> {
     pub rt: &'a W,
     /// The lock around the room.
     pub turns: &'a Turns<SharedRoom<R>>,
     pub clock: &'a C,
-    /// The number of turns of each session, unless the session ends early.
+    /// The number of turns that each session makes, unless the session ends early.
     pub limit: u64,
 }
 
 impl<'a, R: Recorder, C, W> Stage<'a, R, C, W> {
-    /// A stage with this lock and clock, for sessions of `limit` turns.
+    /// Returns a stage with this lock and clock, for sessions of `limit` turns.
     pub fn new(
         rt: &'a W,
         turns: &'a Turns<SharedRoom<R>>,
@@ -47,8 +47,8 @@ impl<'a, R: Recorder, C, W> Stage<'a, R, C, W> {
     }
 }
 
-/// Receives a datagram and, unless that fails, reads the clock. Each turn of a session does this exactly once, even if the session doesn't use the
-/// results (own rule). Returns whether a datagram came, and the moment.
+/// Receives a datagram, and then reads the clock. Returns whether a datagram came, and the moment. If the receive fails, returns the failure without reading
+/// the clock. Each turn of a session calls `listen` exactly once, even if the session doesn't use the results (own rule).
 fn listen<L: Link, C: Clock>(
     link: &mut L,
     clock: &C,
@@ -65,7 +65,7 @@ fn listen<L: Link, C: Clock>(
     Ok((came?, clock.now()))
 }
 
-/// Sends the datagram that a step returned, if any.
+/// Sends the datagram in `packet`, if `output` says that the session's step returned a datagram.
 fn send_output<L: Link>(link: &mut L, output: Output, packet: &PacketBuf) -> Result<(), Failed>
     ensures sent { IfOk result (λ sent. (whole rest : Doing) (seat : Known CallData) → Fits seat → GoesOn whole rest packet.now output
         → Done NoneMayStarve whole rest seat seat (L.told link.old) (L.told link.new) (L.faults link.old) (L.faults link.new) 0) }
@@ -78,8 +78,9 @@ fn send_output<L: Link>(link: &mut L, output: Output, packet: &PacketBuf) -> Res
     }
 }
 
-/// Runs a session that waits for a datagram, for `stage.limit` turns. Each turn is a receive, a reading of the clock, and the calls and datagrams
-/// that follow from them. The session ends early if a call on the link failed or the lock has no ticket left (own rule).
+/// Runs a session for `stage.limit` turns. The session must wait for a datagram when `run_session` is called. Each turn receives a datagram or none, reads
+/// the clock, and then makes the session's calls and sends its datagrams. The session ends early if a call on the link fails or the lock has no ticket left
+/// (own rule).
 pub fn run_session<R: Recorder, S: Session, L: Link, C: Clock, W: Wait + Sync>(
     stage: &Stage<'_, R, C, W>,
     seat: &mut Seat<SharedRoom<R>>,

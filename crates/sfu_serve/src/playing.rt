@@ -1,4 +1,4 @@
-// Jobs that run at the same time, each with its own seat.
+// Runs jobs at the same time. Each job has its own seat.
 ghost use Rattle.std.specs.Prelude.{◌≡◌, ◌++◌, ◌∷◌, [], ◌≤◌, ◌<◌, ◌+◌, IfOk, OnOk, length, map};
 ghost use Rattle.std.specs.List.{All};
 ghost use mathlib.Core.List.{IsPrefix};
@@ -28,7 +28,7 @@ pub struct Seated<R: Recorder, L> {
     pub job: Job<L>,
 }
 
-/// The seat and the link of a job whose session has ended, and how the session ended.
+/// The result of a job: its seat, how its session ended, and its link.
 #[derive(Drop)]
 pub struct Played<R: Recorder, L> {
     pub seat: Seat<SharedRoom<R>>,
@@ -46,7 +46,7 @@ fn put_last<T: Drop>(list: &mut Vec<T>, item: T) -> Result<(), NoMemory>
     }
 }
 
-/// Splits off a seat for each job, in order. The first job gets seat 1.
+/// Splits off one seat for each job, in the order of the jobs. The first job gets seat 1.
 pub fn cast<R: Recorder, L: Link + Drop>(
     alloc: Global,
     turns: &Turns<SharedRoom<R>>,
@@ -73,7 +73,7 @@ pub fn cast<R: Recorder, L: Link + Drop>(
     Ok(seated)
 }
 
-/// Runs the session of a role.
+/// Runs the session that `role` describes.
 fn session<R: Recorder, L: Link, C: Clock, W: Wait + Sync>(
     stage: &Stage<'_, R, C, W>,
     seat: &mut Seat<SharedRoom<R>>,
@@ -111,7 +111,7 @@ fn session<R: Recorder, L: Link, C: Clock, W: Wait + Sync>(
     }
 }
 
-/// Runs a job's session, with its own scratch.
+/// Runs the session of a job, with a new scratch.
 fn perform<R: Recorder, L: Link, C: Clock, W: Wait + Sync>(
     stage: &Stage<'_, R, C, W>,
     seated: Seated<R, L>,
@@ -161,7 +161,7 @@ pub fn play<R: Recorder + Send, L: Link + Send + Drop, C: Clock + Sync, W: Threa
     Ok(played)
 }
 
-/// Joins the jobs' seats into the first seat, in order. Returns each link with its session's end, in the same order.
+/// Joins the seats of the jobs into the first seat, in the order of the jobs. Returns each job's link and how its session ended, in the same order.
 pub fn gather<R: Recorder, L: Link + Drop>(
     alloc: Global,
     turns: &Turns<SharedRoom<R>>,

@@ -15,10 +15,10 @@ use sfu_base::{Clock, Link, Scratch};
 use std::sync::Wait;
 use turn_lock::{Seat, Turns};
 
-/// Runs a publisher's session of `limit` turns. Each turn adds the received RTP packet, if any, to the track, and then ticks the track. In the first
-/// turn, and then at least 20 milliseconds apart, the session asks the room which packets are missing and whether a key frame is wanted. It sends one
-/// NACK (RFC 4585, section 6.2.1) for all missing packets. For a wanted key frame it sends a picture loss indication (section 6.3.1), at least 500
-/// milliseconds after the last one. The session ends early if a call on the link fails or the lock has no ticket left.
+/// Runs a publisher's session of `limit` turns. Each turn adds the received RTP packet, if any, to the track, and then ticks the track. In the first turn,
+/// and then at intervals of at least 20 milliseconds, the session queries which packets are missing and whether a key frame is wanted. The session sends one
+/// NACK (RFC 4585, section 6.2.1) for all missing packets. If a key frame is wanted, it sends a picture loss indication (section 6.3.1), at least 500
+/// milliseconds after the previous one. The session ends early if a call on the link fails or the lock has no ticket left.
 pub fn publisher_session<R: Recorder, L: Link, C: Clock, W: Wait + Sync>(
     rt: &W,
     turns: &Turns<SharedRoom<R>>,
@@ -45,10 +45,10 @@ pub fn publisher_session<R: Recorder, L: Link, C: Clock, W: Wait + Sync>(
     )
 }
 
-/// Runs a subscriber's session of `limit` turns. Each turn serves the received RTCP feedback item by item, and then takes and sends at most 32
-/// packets. For each packet that a NACK names (RFC 4585, section 6.2.1), the session requests a resend and sends the retransmission. For a picture
-/// loss indication (section 6.3.1) it requests a key frame. Items whose media source isn't `ssrc` are skipped. The session ends early if a call on
-/// the link fails or the lock has no ticket left.
+/// Runs a subscriber's session of `limit` turns. Each turn first serves the items of the received RTCP feedback, one by one, and then takes and sends at most
+/// 32 packets. For each packet that a NACK names (RFC 4585, section 6.2.1), the session requests a resend and sends the retransmission. For a picture loss
+/// indication (section 6.3.1), the session requests a key frame. Items whose media source isn't `ssrc` are skipped. The session ends early if a call on the
+/// link fails or the lock has no ticket left.
 pub fn subscriber_session<R: Recorder, L: Link, C: Clock, W: Wait + Sync>(
     rt: &W,
     turns: &Turns<SharedRoom<R>>,
@@ -70,9 +70,9 @@ pub fn subscriber_session<R: Recorder, L: Link, C: Clock, W: Wait + Sync>(
     run_session(&stage, seat, &mut session, link, scratch)
 }
 
-/// Runs a subscriber's session as [`subscriber_session`] does, but sends retransmissions on the stream `rtx` (RFC 4588, section 4), numbered 0, 1 and
-/// so on, modulo 65,536. NACKs still name sequence numbers of the media stream. A NACK whose media source is the SSRC of `rtx` is skipped. This SSRC
-/// must differ from `ssrc`, and the stream's payload type must be below 128.
+/// Runs a subscriber's session as [`subscriber_session`] does, but sends retransmissions on the stream `rtx` (RFC 4588, section 4). The sequence numbers of
+/// this stream are 0, 1 and so on, modulo 65,536. NACKs still name sequence numbers of the media stream. A NACK whose media source is the SSRC of `rtx` is
+/// skipped. The SSRC of `rtx` must differ from `ssrc`, and the payload type of `rtx` must be below 128.
 pub fn rtx_session<R: Recorder, L: Link, C: Clock, W: Wait + Sync>(
     rt: &W,
     turns: &Turns<SharedRoom<R>>,
@@ -99,8 +99,8 @@ pub fn rtx_session<R: Recorder, L: Link, C: Clock, W: Wait + Sync>(
     run_session(&stage, seat, &mut session, link, scratch)
 }
 
-/// Runs a controller's session of `limit` turns. A datagram is a call if it is one line of publish, unpublish, join, leave, aim, key, plead or why,
-/// without a line end. The session sends the text of the reply, also without a line end. The reply to any other datagram is `fault line`. The session
+/// Runs a controller's session of `limit` turns. A datagram is a call if it is one line of text for publish, unpublish, join, leave, aim, key, plead or why,
+/// without a line end. The session sends the text of the call's reply, also without a line end. The reply to any other datagram is `fault line`. The session
 /// ends early if a call on the link fails or the lock has no ticket left.
 pub fn control_session<R: Recorder, L: Link, C: Clock, W: Wait + Sync>(
     rt: &W,

@@ -10,7 +10,7 @@ use Rattle.script_texts.specs.Lines.{HasBytes}
 use Rattle.room_core.specs.History.{Entry}
 use Rattle.turn_lock.proofs.Lists.{there}
 use Rattle.sfu_together.specs.History.{IsJournal, journal_from, made_by, own}
-use Rattle.actor_script.specs.Counts.{HaveBytes}
+use Rattle.port_config.specs.actors.Counts.{HaveBytes}
 
 abbrev Written : List Entry → Type 0
 Written h = AllByRecursion (λ e. HasBytes e.call) h

@@ -21,22 +21,22 @@ use Rattle.turn_lock.specs.Known.{AllJoinedIn, Fits, Known, opened}
 use Rattle.turn_lock.proofs.Lists.{prefix_trans, there}
 use Rattle.turn_lock.proofs.Histories.{below_left, below_more, own_above, own_append}
 use Rattle.sfu_together.specs.Turns.{entries_of, entry_of}
-use Rattle.actor_script.specs.declared.turns.Placed.{Placed}
+use Rattle.port_config.specs.declared.actors.turns.Placed.{Placed}
 use Rattle.sfu_together.specs.declared.cast.Done.{Done}
 use Rattle.sfu_together.specs.History.{IsJournal, IsMadeBy, made_by}
-use Rattle.actor_script.specs.Counts.{count_of}
+use Rattle.port_config.specs.actors.Counts.{count_of}
 use Rattle.sfu_together.specs.Acting.{Acts, AreDone, HasJoined, counting, joined_as, kept_by, placed, turn_of}
-use Rattle.actor_script.specs.Places.{AtPlaces, mine}
+use Rattle.port_config.specs.actors.Places.{AtPlaces, mine}
 use Rattle.sfu_together.proofs.Counting.{few}
 use Rattle.sfu_together.proofs.Histories.{made_entries, no_first, no_longer, only_first, own_entries, own_whole}
 use Rattle.sfu_together.proofs.Placing.{all_at_places, journal_placed, mine_none, mine_same, nothing, placed_below}
-use Rattle.actor_script.proofs.Sorting.{parts, parts_all}
+use Rattle.port_config.proofs.Sorting.{parts, parts_all}
 
 below_right : (n : ℕ) (xs ys : List (Entry Call)) → AllBelow n (xs ++ ys) → AllBelow n ys
 below_right n [] ys low = low
 below_right n (x ∷ xs) ys low = below_right n xs ys low.1
 
--- What is known before the lock is closed: the first seat after the opening part, after the joins, and after the closing part.
+-- The facts before the lock is closed: about the first seat after the opening part, after the joins, and after the closing part.
 pub record Ended (lock : TableId) (script : Actors) (root joined last : Known Call) (dones : List Done) (first_kept last_kept : List Placed) : Type 0 where
   pub opening : Acts (opened lock 0) root script.opening first_kept
   pub root_fits : Fits root
@@ -103,7 +103,7 @@ module _ {lock : TableId} {script : Actors} {root joined last : Known Call} {don
   done_own : Ended lock script root joined last dones first_kept last_kept → (i : ℕ) (d : Done) → get_elem? dones i ≡ some d → own_of (i + 1) d.seat.seen ≡ d.seat.own
   done_own e i d at = let k = (e.done i d at).2 in subst (λ (n : ℕ). own_of n d.seat.seen ≡ d.seat.own) (done_number e i d at) k.fits.own
 
-  -- ---- the lock was never worn
+  -- ---- the lock always had a ticket left
 
   each_few : Ended lock script root joined last dones first_kept last_kept → (k : ℕ) → k < 9 → length (own_of k last.seen) ≤ 100000
   each_few e zero low =
@@ -186,7 +186,7 @@ module _ {lock : TableId} {script : Actors} {root joined last : Known Call} {don
       let before : AllBelow 9 joined.seen = below_left 9 joined.seen (rest e) (subst (AllBelow 9) (sym (last_split e)) (last_below e)) in
       below_right 9 root.seen (middle e) (subst (AllBelow 9) (sym (joined_split e)) before)
 
-  -- the history is one that the script's actors made
+  -- the history is one of the script's actors
   pub is_made : (e : Ended lock script root joined last dones first_kept last_kept) → last.found ≤ last.first + length last.seen → IsMadeBy script (entries_of last.seen)
   is_made e f = record {
     middle = entries_of (middle e);
@@ -200,7 +200,7 @@ module _ {lock : TableId} {script : Actors} {root joined last : Known Call} {don
     actors = no_first 8 (middle e) (middle_below e) (middle_none e);
   }
 
-  -- ---- what was kept
+  -- ---- the stored entries
 
   mine_first : (e : Ended lock script root joined last dones first_kept last_kept) → mine 0 (placed last.seen) ≡ first_kept ++ last_kept
   mine_first e =
@@ -231,7 +231,7 @@ module _ {lock : TableId} {script : Actors} {root joined last : Known Call} {don
       let joint : parts 1 ps ++ kept_by dones ≡ parts (1 + length dones) ps = parts_kept ps dones 1 (λ i d at. mine_done e i d at ∙ ap (λ (m : ℕ). mine m ps) (let q : i + 1 ≡ 1 + i = omega arith in q)) in
       sym (joint ∙ ap (λ (m : ℕ). parts m ps) nine) ∙ ap (λ (l : List Placed). l ++ kept_by dones) (mine_first e)
 
-  -- what was stored are the turns of the history, in another order
+  -- the stored entries are the turns of the history, in another order
   pub is_kept : (e : Ended lock script root joined last dones first_kept last_kept) → IsPermutation (placed last.seen) ((first_kept ++ kept_by dones) ++ last_kept)
   is_kept e =
       let moved : IsPermutation (placed last.seen) ((first_kept ++ last_kept) ++ kept_by dones) = subst (IsPermutation (placed last.seen)) (all_parts e) (parts_all 9 (placed last.seen) (placed_below [] last.seen (last_below e))) in

@@ -1,4 +1,4 @@
--- Histories of seats: who has which entries.
+-- Histories of seats: which seat has which entries.
 use Rattle.std.proofs.Common.{◌≡◌, ℕ, zero, suc, ◌+◌, ◌<◌, ◌≤◌, Bool, true, false, cond, eqb, List, [], ◌∷◌, length, map, refl, ap, sym, ◌∙◌, arith, eq-eqb}
 use Rattle.std.specs.List.{All}
 use Rattle.std.specs.Prelude.{sum_by}
@@ -16,7 +16,7 @@ use Rattle.sfu_together.specs.Turns.{entries_of, entry_of}
 use Rattle.sfu_together.specs.History.{made_by, own}
 use Rattle.sfu_together.specs.Acting.{turn_of}
 
--- a history of seat 0 alone is that seat's own list
+-- a history with only seat 0 is that seat's own list
 pub own_whole : (h : List (Entry Call)) → AllBelow 1 h → own_of 0 h ≡ h
 own_whole [] low = refl
 own_whole (e ∷ es) low = let k = low.0 in let z : e.seat ≡ 0 = omega arith in ap (λ (b : Bool). cond b (e ∷ own_of 0 es) (own_of 0 es)) (eq-eqb e.seat 0 z) ∙ ap (λ (l : List (Entry Call)). e ∷ l) (own_whole es low.1)
@@ -29,7 +29,7 @@ not_its : (b : Bool) (e : Entry Call) (os : List (Entry Call)) → b ≡ true �
 not_its true e os t h = cc h
 not_its false e os t h = cc t
 
--- a history in which no other seat has entries belongs to seat 0 alone
+-- a history in which no other seat has entries has only those of seat 0
 pub only_first : (n : ℕ) (h : List (Entry Call)) → AllBelow n h → ((k : ℕ) → 0 < k → k < n → own_of k h ≡ []) → AllBelow 1 h
 only_first n [] low none = tt
 only_first n (e ∷ es) low none = (
@@ -39,7 +39,7 @@ only_first n (e ∷ es) low none = (
   only_first n es low.1 (λ k pos lt. none_tail (eqb e.seat k) e (own_of k es) (none k pos lt)),
 )
 
--- if seat 0 has no entry, all are of other seats
+-- if seat 0 has no entry, all entries are of other seats
 pub no_first : (n : ℕ) (h : List (Entry Call)) → AllBelow (n + 1) h → own_of 0 h ≡ [] → All (λ e. (0 < e.seat) × (e.seat ≤ n)) (entries_of h)
 no_first n [] low none = λ k d lt. absurd (omega arith)
 no_first n (e ∷ es) low none =

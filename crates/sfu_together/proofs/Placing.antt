@@ -1,4 +1,4 @@
--- What is stored of a seat's turns, as the history grows.
+-- The stored entries of a seat's turns, while the history grows.
 use Rattle.std.proofs.Common.{◌≡◌, ℕ, ◌+◌, Bool, true, false, cond, eqb, List, [], ◌∷◌, ◌++◌, length, map, refl, ap, sym, ◌∙◌, arith, append-nil, append_assoc, eq-eqb, length-append}
 use Rattle.std.proofs.lemmas.List.{append_cancel_right, map-append}
 use mathlib.Core.List.{IsPrefix}
@@ -9,11 +9,11 @@ use Rattle.turn_lock.specs.declared.history.Entry.{Entry}
 use Rattle.turn_lock.specs.History.{AllBelow, own_of}
 use Rattle.turn_lock.proofs.Histories.{own_append, own_here}
 use Rattle.sfu_together.specs.Turns.{entries_of, entry_of}
-use Rattle.actor_script.specs.declared.turns.Placed.{Placed}
+use Rattle.port_config.specs.declared.actors.turns.Placed.{Placed}
 use Rattle.sfu_together.specs.History.{journal_from, told_of}
-use Rattle.actor_script.proofs.Sorting.{AreBelow}
+use Rattle.port_config.proofs.Sorting.{AreBelow}
 use Rattle.sfu_together.specs.Acting.{placed, placed_at, placed_from}
-use Rattle.actor_script.specs.Places.{AtPlaces, mine}
+use Rattle.port_config.specs.actors.Places.{AtPlaces, mine}
 
 pushed : (b : Bool) (p : Placed) (xs ys : List Placed) → cond b (p ∷ xs ++ ys) (xs ++ ys) ≡ cond b (p ∷ xs) xs ++ ys
 pushed true p xs ys = refl
@@ -41,14 +41,14 @@ pub nothing : {A : Type 0} (o b : List A) → o ++ b ≡ o → b ≡ []
 nothing [] b e = e
 nothing (x ∷ o) b e = nothing o b (cc e)
 
--- what is stored for a seat is unchanged by the others' turns
+-- the entries stored for a seat are unchanged by the others' turns
 pub mine_same : (n : ℕ) (a b : List (Entry Call)) → IsPrefix a b → own_of n b ≡ own_of n a → mine n (placed b) ≡ mine n (placed a)
 mine_same n a b pre same =
     let rest : own_of n pre.0 ≡ [] = nothing (own_of n a) (own_of n pre.0) (sym (own_append n a pre.0) ∙ (ap (own_of n) pre.1 ∙ same)) in
     ap (λ (l : List (Entry Call)). mine n (placed l)) (sym pre.1)
     ∙ (ap (mine n) (placed_append [] a pre.0) ∙ (mine_append n (placed a) (placed_from a pre.0) ∙ (ap (λ (l : List Placed). mine n (placed a) ++ l) (mine_none a n pre.0 rest) ∙ append-nil (mine n (placed a)))))
 
--- a turn adds to what is stored for a seat
+-- a turn adds an entry to those stored for a seat
 pub mine_turn : (n : ℕ) (seen h seen' : List (Entry Call)) (e : Entry Call) (own : List (Entry Call)) → IsPrefix seen h → seen' ≡ h ++ e ∷ [] → e.seat ≡ n → own_of n seen ≡ own → own_of n seen' ≡ own ++ e ∷ []
     → mine n (placed seen') ≡ mine n (placed seen) ++ placed_at h e ∷ []
 mine_turn n seen h seen' e own pre is by had has =

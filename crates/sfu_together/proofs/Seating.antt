@@ -14,10 +14,10 @@ use Rattle.script_texts.specs.declared.journal.Actors.{Actors}
 use Rattle.turn_lock.specs.declared.history.Joined.{Joined}
 use Rattle.turn_lock.specs.Known.{Fits, Known, another, together}
 use Rattle.turn_lock.proofs.Lists.{at_end, prefix_self, prefix_trans, there, within}
-use Rattle.actor_script.specs.declared.turns.Placed.{Placed}
+use Rattle.port_config.specs.declared.actors.turns.Placed.{Placed}
 use Rattle.sfu_together.specs.declared.cast.Done.{Done}
 use Rattle.sfu_together.specs.declared.cast.Job.{Job}
-use Rattle.actor_script.specs.Counts.{count_of}
+use Rattle.port_config.specs.actors.Counts.{count_of}
 use Rattle.sfu_together.proofs.Histories.{no_longer}
 use Rattle.sfu_together.specs.Acting.{Acts, AreDone, AreJobs, HasActed, HasJoined, IsDone, IsReady, IsJob, counting, joined_as, kept_by}
 
@@ -73,7 +73,7 @@ one_joined v w w' ds d was is mine its = record {
 pub kept_more : (ds : List Done) (d : Done) → kept_by (ds ++ d ∷ []) ≡ kept_by ds ++ d.kept.items
 kept_more ds d = flat_map-append (λ (x : Done). x.kept.items) ds (d ∷ []) ∙ ap (λ (l : List Placed). kept_by ds ++ l) (append-nil d.kept.items)
 
--- ---- what came back of the jobs
+-- ---- the results of the jobs
 
 at_index : {A : Type 0} (xs : List A) (i : ℕ) (a : A) → i < length xs → a ≡ get_or xs i a → get_elem? xs i ≡ some a
 at_index [] i a low is = absurd (omega arith)
@@ -90,7 +90,7 @@ at_map f [] i a e = absurd (some-ne-none a (sym e))
 at_map f (x ∷ xs) zero a e = ap (λ (y : _). some (f y)) (some-injective x a e)
 at_map f (x ∷ xs) (suc i) a e = at_map f xs i a e
 
--- a job that can be given to a thread
+-- a job that can be moved to a thread
 pub job_at : (root : Known Call) (jobs : List Job) (i : ℕ) (job : Job) → AreJobs root jobs → i < length jobs → job ≡ get_or jobs i job → IsJob root i job
 job_at root jobs i job are low is = are i job (at_index jobs i job low is)
 
@@ -102,7 +102,7 @@ done_at root lists i job done is acted =
       record { acts = subst (λ (k : Known Call). Acts k done.seat acted.calls done.kept.items) is.seat acted.acts; fits = acted.fits },
     )
 
--- if each job returned something, and all returned an Ok, each is done
+-- if each job returned a result, and all results are Ok, each job is done
 pub all_came : (root : Known Call) (lists : List (List Call)) (jobs : List Job) (dones : List Done) (ended : List (Result Done NoMemory)) → AreJobs root jobs → map Ok dones ≡ ended → length ended ≡ length jobs
     → ((i : ℕ) (d : Result Done NoMemory) → i < length jobs → (job : Job) × (job ≡ get_or jobs i job) × IfOk (get_or ended i d) (λ done. HasActed lists job done)) → AreDone root lists dones
 all_came root lists jobs dones ended are ok long gives = λ i done at.
@@ -115,7 +115,7 @@ all_came root lists jobs dones ended are ok long gives = λ i done at.
 pub all_long : (dones : List Done) (ended : List (Result Done NoMemory)) → map Ok dones ≡ ended → length dones ≡ length ended
 all_long dones ended ok = sym (length-map dones Ok) ∙ ap length ok
 
--- ---- what the joins want
+-- ---- the requirements of the joins
 
 pub all_locks : (root : Known Call) (lists : List (List Call)) (dones : List Done) (lock : TableId) → AreDone root lists dones → root.lock ≡ lock → All (λ done. done.seat.lock ≡ lock) dones
 all_locks root lists dones lock are same = λ i d low.
@@ -140,7 +140,7 @@ part_few script i calls few at = let k = no_longer script.actors i calls at in o
 pub part_at : {A : Type 0} (xs : List A) (i : ℕ) (a : A) → i < length xs → a ≡ get_or xs i a → get_elem? xs i ≡ some a
 part_at xs i a low is = at_index xs i a low is
 
--- jobs that can be given to threads
+-- jobs that can be moved to threads
 pub all_ready : (root : Known Call) (jobs : List Job) (lock : TableId) → AreJobs root jobs → length jobs ≡ 8 → root.lock ≡ lock → root.first ≡ 0 → All (λ job. IsReady lock job) jobs
 all_ready root jobs lock are eight same first = λ i d low.
     let at = there jobs i low in

@@ -1,4 +1,4 @@
--- What each status of `together` means, after its script was read or wasn't.
+-- The meaning of each status of `together`, after its script was read or wasn't.
 use Rattle.std.proofs.Common.{◌≡◌, ◌⊎◌, inl, inr, ⊎_elim, ℕ, List, [], ◌++◌, refl, sym, ap, ◌∙◌, subst, arith, append-nil, Option, Some, None, Ok, Err}
 use Rattle.std.specs.Prelude.{IfSome}
 use Rattle.std.specs.Io.KnownBytes.{Appends, Consumes, IsAtEnd}
@@ -19,8 +19,8 @@ use Rattle.room_core.specs.Headline.{Headline}
 use Rattle.room_core.proofs.Promising.{headline}
 use Rattle.script_texts.specs.WholeLines.{fault_line}
 use Rattle.sfu_together.specs.History.{IsMadeBy}
-use Rattle.actor_script.specs.Reading.{ReadsActors, ReadsNone, read_due, read_part}
-use Rattle.actor_script.specs.Script.{together_script}
+use Rattle.port_config.specs.actors.Reading.{ReadsActors, ReadsNone, read_due, read_part}
+use Rattle.port_config.specs.actors.Script.{together_script}
 use Rattle.sfu_together.specs.Together.{IsPlayed, Plays, journal_text, text_unless, together_due}
 
 if_some : (left : Option (List ℕ)) (P Q : List ℕ → Type 0) → ((b : List ℕ) → P b → Q b) → IfSome left P → IfSome left Q

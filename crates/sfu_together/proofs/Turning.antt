@@ -9,10 +9,10 @@ use Rattle.turn_lock.specs.History.{entry, own_of}
 use Rattle.turn_lock.specs.Known.{FindsWorn, Fits, KeepsSeat, Known, MakesTurn}
 use Rattle.turn_lock.proofs.Lists.{prefix_self, prefix_trans}
 use Rattle.sfu_together.specs.Turns.{entries_of}
-use Rattle.actor_script.specs.declared.turns.Placed.{Placed}
+use Rattle.port_config.specs.declared.actors.turns.Placed.{Placed}
 use Rattle.sfu_together.specs.History.{told_of}
 use Rattle.sfu_together.specs.Acting.{Acts, placed, placed_at, turn_of}
-use Rattle.actor_script.specs.Places.{mine}
+use Rattle.port_config.specs.actors.Places.{mine}
 use Rattle.sfu_together.proofs.Placing.{mine_turn}
 
 -- the seat has made the first calls, and stored its turns
@@ -74,7 +74,7 @@ all_turned o k calls i kept whole within was = record {
   told = was.told;
 }
 
--- the seat found the lock worn
+-- the seat found all tickets of the lock drawn
 pub worn_turned : (o k l : Known Call) (calls : List Call) (i : ℕ) (kept : List Placed) → i ≤ length calls → FindsWorn k l → Turned o k calls i kept → Acts o l calls kept
 worn_turned o k l calls i kept within worn was = subst (λ (z : Known Call). Acts o z calls kept) (sym worn.0) (record {
   keeps = (was.keeps.0, was.keeps.1, was.keeps.2, was.keeps.3, was.keeps.4, (let f : o.found ≤ k.found = was.keeps.5 in let low : k.found ≤ 2 ^ 63 = worn.1 in omega arith));

@@ -11,19 +11,19 @@ use Rattle.turn_lock.specs.declared.history.Joined.{Joined}
 use Rattle.turn_lock.specs.History.{entry}
 use Rattle.turn_lock.specs.Known.{Fits, KeepsSeat, Known, another}
 use Rattle.sfu_together.specs.Turns.{entries_of}
-use Rattle.actor_script.specs.declared.turns.Placed.{Placed}
-use Rattle.actor_script.specs.Places.{mine}
+use Rattle.port_config.specs.declared.actors.turns.Placed.{Placed}
+use Rattle.port_config.specs.actors.Places.{mine}
 use Rattle.sfu_together.specs.declared.cast.Done.{Done}
 use Rattle.sfu_together.specs.declared.cast.Job.{Job}
 use Rattle.sfu_together.specs.History.{told_of}
 
 -- ---- stored turns
 
--- the stored entry of a turn after these turns
+-- the stored entry of a turn that follows these turns
 abbrev pub placed_at : List (Entry Call) → Entry Call → Placed
 placed_at past e = record { place = length past; entry = told_of (entries_of past) e.seat e.call }
 
--- the stored entries of turns after these turns
+-- the stored entries of turns that follow these turns
 abbrev pub placed_from : List (Entry Call) → List (Entry Call) → List Placed
 placed_from past [] = []
 placed_from past (e ∷ es) = placed_at past e ∷ placed_from (past ++ e ∷ []) es
@@ -38,7 +38,7 @@ placed history = placed_from [] history
 abbrev pub turn_of : ℕ → Call → Entry Call
 turn_of seat call = entry seat call false
 
--- A seat made these calls, in order, or found all tickets of the lock drawn. The entries of its turns were stored.
+-- A seat made these calls, in order, or found that all tickets of the lock were drawn. The entries of its turns were stored.
 pub record Acts (old new : Known Call) (calls : List Call) (kept : List Placed) : Type 0 where
   pub keeps : KeepsSeat old new
   pub goes_on : IsPrefix old.seen new.seen
@@ -46,13 +46,13 @@ pub record Acts (old new : Known Call) (calls : List Call) (kept : List Placed) 
   pub few : length new.own ≤ length old.own + length calls
   pub told : mine old.number (placed new.seen) ≡ mine old.number (placed old.seen) ++ kept
 
--- ---- seats that are split off and joined
+-- ---- seats that are split off and later joined
 
--- the first seat, which has counted this many seats
+-- the first seat after it has counted n seats
 abbrev pub counting : Known Call → ℕ → Known Call
 counting k n = record { lock = k.lock; first = k.first; number = k.number; seen = k.seen; own = k.own; found = k.found; count = n; joined = k.joined }
 
--- Each job has the seat with its actor's number, which was split off from this one.
+-- The job has the seat with its actor's number, which was split off from the seat `root`.
 pub record IsJob (root : Known Call) (i : ℕ) (job : Job) : Type 0 where
   pub seat : job.seat ≡ another (counting root (i + 1))
   pub actor : job.actor ≡ i + 1
@@ -70,7 +70,7 @@ pub record IsReady (lock : TableId) (job : Job) : Type 0 where
   pub some : 0 < job.actor
   pub within : job.actor ≤ 8
 
--- The job's actor has made its calls: the first actor has the first of these lists.
+-- The job's actor has made its calls. Actor 1 has the first of these lists.
 pub record HasActed (lists : List (List Call)) (job : Job) (done : Done) : Type 0 where
   pub index : ℕ
   pub actor : index + 1 ≡ job.actor
@@ -79,7 +79,7 @@ pub record HasActed (lists : List (List Call)) (job : Job) (done : Done) : Type 
   pub acts : Acts job.seat done.seat calls done.kept.items
   pub fits : Fits done.seat
 
--- The result of an actor with these calls, whose seat was split off from this one.
+-- The result of an actor with these calls, whose seat was split off from the seat `root`.
 pub record IsDone (root : Known Call) (i : ℕ) (calls : List Call) (done : Done) : Type 0 where
   pub acts : Acts (another (counting root (i + 1))) done.seat calls done.kept.items
   pub fits : Fits done.seat
@@ -92,7 +92,7 @@ AreDone root lists dones = (i : ℕ) (done : Done) → get_elem? dones i ≡ som
 abbrev pub joined_as : Done → Joined Call
 joined_as done = record { number = done.seat.number; own = done.seat.own }
 
--- the first seat after all these were joined into it
+-- the first seat after the seats of all actors were joined into it
 pub record HasJoined (old : Known Call) (dones : List Done) (new : Known Call) : Type 0 where
   pub lock : new.lock ≡ old.lock
   pub number : new.number ≡ old.number

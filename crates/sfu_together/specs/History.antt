@@ -21,8 +21,8 @@ abbrev pub own : ℕ → List Entry → List Entry
 own seat [] = []
 own seat (e ∷ es) = if e.seat == seat then e ∷ own seat es else own seat es
 
--- The history has the opening part's calls by seat 0; then a list with each actor's own calls, in the actor's order, and no other seat's calls; then
--- the closing part's calls by seat 0. The first actor has seat 1.
+-- The history has three parts. The first has the opening part's calls by seat 0. The second has each actor's calls, in
+-- the actor's order, and no other seat's calls; actor 1 has seat 1. The third has the closing part's calls by seat 0.
 pub record IsMadeBy (script : Actors) (history : List Entry) : Type 0 where
   pub middle : List Entry
   pub parts : history ≡ map (made_by 0) script.opening ++ (middle ++ map (made_by 0) script.closing)
@@ -44,7 +44,7 @@ journal_from past (e ∷ es) = told_of past e.seat e.call ∷ journal_from (past
 abbrev pub journal_of : List Entry → List journal.Entry
 journal_of history = journal_from [] history
 
--- The journal is that of a history that the script's actors made. The guarantees (`Headline`) hold for that history.
+-- The journal is that of a history of the script's actors. The guarantees (`Headline`) hold for that history.
 pub record IsJournal (script : Actors) (entries : List journal.Entry) : Type 0 where
   pub history : List Entry
   pub made : IsMadeBy script history

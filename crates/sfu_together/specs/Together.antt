@@ -11,8 +11,8 @@ use Rattle.room_core.specs.History.{Entry, accepted}
 use Rattle.sfu_driver.specs.Drive.{outside_end}
 use Rattle.script_texts.specs.WholeLines.{fault_line}
 use Rattle.sfu_together.specs.History.{IsMadeBy, journal_of}
-use Rattle.actor_script.specs.Reading.{read_part}
-use Rattle.actor_script.specs.Script.{AreActors, together_script}
+use Rattle.port_config.specs.actors.Reading.{read_part}
+use Rattle.port_config.specs.actors.Script.{AreActors, together_script}
 
 abbrev pub IsTogether : List (List ℕ) → Type 0
 IsTogether words = words ≡ codes "together" ∷ []
@@ -26,7 +26,7 @@ abbrev pub text_unless : Option ℕ → List Entry → List ℕ
 text_unless None history = journal_text history
 text_unless (Some line) history = []
 
--- all that is due for a script whose actors made this history: its journal, or which line is outside the grammar
+-- all texts that are due for a script whose actors made this history: its journal, or the line that is outside the grammar
 abbrev pub together_due : List Entry → List ℕ → Due
 together_due history bytes = record { text = text_unless (together_script bytes).fault history; end = outside_end fault_line (together_script bytes).fault }
 
@@ -37,16 +37,16 @@ pub record IsPlayed (history : List Entry) (bytes : List ℕ) : Type 0 where
   pub parts : AreActors (together_script bytes).said actors
   pub made : IsMadeBy actors history
 
--- What a status means: the same as for every command that reads. The output that is due is the journal of one history. None of it is due before the
--- end of the script is seen.
+-- The meaning of a status: the same as for every command that reads. The output that is due
+-- is the journal of one history. None of it is due before the end of the script is reached.
 pub record Plays (x : Exchange) (status : ℕ) : Type 0 where
   pub history : List Entry
   pub statuses : Statuses (together_due history) read_part x.left x.left' x.written x.written' x.reads x.reads' x.writes x.writes' status
-  -- for 0 and 4 the script's actors made that history
+  -- for 0 and 4, the script's actors made that history
   pub played : (status ≡ 0) ⊎ (status ≡ 4) → IfSome x.left (IsPlayed history)
-  -- even if the source's bytes aren't known, it had the bytes of such a script
+  -- even if contracts don't see the source's bytes, the source had the bytes of such a script
   pub script : (status ≡ 0) ⊎ (status ≡ 4) → (bytes : List ℕ) × Consumes x.left x.left' bytes × IsAtEnd x.left' × IsPlayed history bytes
-  -- for 3 and 6 nothing was written
+  -- for 3 and 6, nothing was written
   pub unwritten : (status ≡ 3) ⊎ (status ≡ 6) → Appends x.written x.written' []
   -- the guarantees (`Headline`) hold for the history
   pub headline : Headline (accepted history)

@@ -1,4 +1,4 @@
--- The history of a room that actors share: the earlier turns of the room's lock, each as an entry of the room's history.
+-- The history of a room that actors share: the turns of the room's lock, each as an entry of the room's history.
 use Rattle.std.specs.Prelude.{List, map}
 use Rattle.sfu_base.specs.declared.call.Call.{Call}
 use Rattle.turn_lock.specs.declared.history.Entry as turn

@@ -5,14 +5,14 @@ ghost use Rattle.sfu_together.specs.Acting.{Acts};
 
 use crate::gate::Gate;
 use crate::played_room::PlayedRoom;
-use actor_script::{Placed, put_last, told};
+use port_config::{Placed, put_last, told};
 use sfu_base::{Call, NoMemory, PacketBuf, Scratch, SeqList};
 use std::alloc::Global;
 use std::sync::Wait;
 use turn_lock::{Seat, Turns};
 
-/// Makes a seat's calls, at most 100,000, in order. Returns for each turn its index in the history, and the journal's entry of its call. The gate is
-/// called before and after each turn. No further call is made once the lock has no ticket left.
+/// Makes a seat's calls, at most 100,000, in order. Returns, for each turn, its index in the history and the journal's entry
+/// of its call. The gate is called before and after each turn. Once the lock has no ticket left, no further call is made.
 pub fn act<W: Wait + Sync, G: Gate>(
     rt: &W,
     alloc: Global,

@@ -3,12 +3,12 @@ ghost use Rattle.std.specs.Prelude.{◌≡◌, ◌++◌, ◌≤◌, ◌<◌, ◌
 ghost use Rattle.std.specs.List.{All};
 ghost use Rattle.turn_lock.specs.Known.{Fits};
 ghost use Rattle.sfu_together.specs.Acting.{AreDone, AreJobs, HasActed, HasJoined, IsReady, counting, kept_by};
-ghost use Rattle.actor_script.specs.Counts.{count_of};
+ghost use Rattle.port_config.specs.actors.Counts.{count_of};
 
 use crate::acting::act;
 use crate::gate::Gate;
 use crate::played_room::PlayedRoom;
-use actor_script::{Placed, put_all, put_last};
+use port_config::{Placed, put_all, put_last};
 use script_texts::Actors;
 use sfu_base::NoMemory;
 use std::alloc::Global;
@@ -78,7 +78,7 @@ fn perform<W: Wait + Sync, G: Gate>(
     Ok(Done { seat, kept })
 }
 
-/// The results of all actors, in order. `NoMemory`: an actor ran out of memory, or memory for this list did.
+/// Returns the results of all actors, in order. Returns `NoMemory` if an actor ran out of memory, or if there is no memory for this list.
 fn all_done(alloc: Global, ended: Vec<Result<Done, NoMemory>>) -> Result<Vec<Done>, NoMemory>
     ensures { IfOk result (λ dones. map Ok dones.items ≡ ended.items) }
 {
@@ -90,7 +90,7 @@ fn all_done(alloc: Global, ended: Vec<Result<Done, NoMemory>>) -> Result<Vec<Don
     Ok(dones)
 }
 
-/// Splits off a seat for each actor, and runs the actors at the same time, each on a thread of its own.
+/// Splits off a seat for each actor, and runs the actors at the same time, each on its own thread.
 pub fn play<W: Threads + Wait + Sync, G: Gate>(
     rt: &W,
     alloc: Global,

@@ -5,15 +5,15 @@ ghost use Rattle.sfu_driver.specs.Exchange.{exchange_of};
 
 use crate::gate::OpenGate;
 use crate::running::run_together;
-use actor_script::{read_actors, text_of};
+use port_config::{read_actors, text_of};
 use sfu_base::{Sink, Source};
 use sfu_driver::{Status, write_all};
 use std::alloc::Global;
 use std::sync::Wait;
 use std::thread::Threads;
 
-/// Reads a script of actors to its end, makes its calls (the actors' calls at the same time), writes the journal, and returns the status. No part of
-/// the journal is written before the last call was made.
+/// Reads a script of actors to its end, makes its calls, writes the journal, and returns the status. The
+/// actors make their calls at the same time. No part of the journal is written before the last call was made.
 pub fn play_script<W: Threads + Wait + Sync, S: Source, K: Sink>(
     rt: &W,
     alloc: Global,

@@ -5,7 +5,7 @@ pub trait Gate: Sync {
     /// Called before the actor `actor`, 1 to 8, makes its call with the index `line`, counted from 0.
     fn before(&self, actor: u8, line: u32);
 
-    /// Called after that call.
+    /// Called after the actor has made that call.
     fn after(&self, actor: u8, line: u32);
 }
 

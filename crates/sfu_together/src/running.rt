@@ -1,13 +1,13 @@
 // Makes a script's calls and returns their journal.
 ghost use Rattle.std.specs.Prelude.{◌≤◌, IfOk};
 ghost use Rattle.sfu_together.specs.History.{IsJournal};
-ghost use Rattle.actor_script.specs.Counts.{count_of};
+ghost use Rattle.port_config.specs.actors.Counts.{count_of};
 
 use crate::acting::act;
 use crate::cast::{gather, play};
 use crate::gate::{Gate, OpenGate};
 use crate::played_room::PlayedRoom;
-use actor_script::{in_order, put_all};
+use port_config::{in_order, put_all};
 use room_core::{KeepNone, Room};
 use script_texts::{Actors, Journal};
 use sfu_base::NoMemory;
@@ -24,8 +24,8 @@ pub enum TogetherFault {
     NoMemory,
 }
 
-// Makes a script's calls on a room that records nothing: the opening part's by seat 0, then the actors', each actor by a seat of its own,
-// then the closing part's by seat 0.
+// Makes a script's calls on a room that records nothing. First seat 0 makes the opening part's calls.
+// Then each actor makes its calls by its own seat. At last seat 0 makes the closing part's calls.
 fn make<W: Threads + Wait + Sync, G: Gate>(
     rt: &W,
     alloc: Global,
@@ -65,8 +65,8 @@ fn make<W: Threads + Wait + Sync, G: Gate>(
     in_order(alloc, kept)
 }
 
-/// Makes a script's calls, at most 100,000, and returns the journal. The actors run at the same time, each on a thread of its own, and the
-/// gate is called before and after each call of an actor. On `NoMemory` the room and the entries are dropped.
+/// Makes a script's calls, at most 100,000, and returns the journal. The actors run at the same time, each on its own
+/// thread. The gate is called before and after each call of an actor. On `NoMemory` the room and the entries are dropped.
 pub fn run_together<W: Threads + Wait + Sync, G: Gate>(
     rt: &W,
     alloc: Global,

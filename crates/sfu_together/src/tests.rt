@@ -1,7 +1,7 @@
 // Eight actors that make calls at the same time, and what their gate records.
 use crate::gate::Gate;
 use crate::running::run_together;
-use actor_script::read_actors;
+use port_config::read_actors;
 use sfu_base::{MemSink, MemSource};
 use std::sync::atomic::{AtomicBool, AtomicU64, Ordering};
 use std::test::Fail;
@@ -13,17 +13,17 @@ const SCRIPT: &[u8] =
     b"take 9\n@1 take 1\n@1 take 1\n@2 take 2\n@2 take 2\n@3 take 3\n@3 take 3\n@4 take 4\n@4 take 4\n\
     @5 take 5\n@5 take 5\n@6 take 6\n@6 take 6\n@7 take 7\n@7 take 7\n@8 take 8\n@8 take 8\ntake 9\n";
 
-// How often an actor checks for another one at most, with a millisecond between two checks.
+// The greatest number of times that an actor checks for another one, with a millisecond between two checks.
 const MOST_LOOKS: u32 = 10_000;
 
-// What the gate records of one actor, two hexadecimal digits for each event: 1 before a call or 2 after it, then the call's index.
+// What the gate records of one actor: two hexadecimal digits for each event. The first is 1 before a call and 2 after it, the second is the call's index.
 const BEFORE: u8 = 0x10;
 
 const AFTER: u8 = 0x20;
 
 const HEARD: u64 = 0x10_20_11_21;
 
-// What the gate recorded of one actor.
+// What the gate recorded about one actor.
 #[derive(Drop)]
 struct Actor {
     before: AtomicBool,
@@ -48,7 +48,7 @@ impl Actor {
             .store(heard * 256 + u64::from(kind) + place, Ordering::SeqCst);
     }
 
-    // Whether the flag of this kind is set; it is set before or after the first call.
+    // Returns whether the flag of this kind is set. An actor sets it before or after its first call.
     fn is_up(&self, kind: u8) -> bool {
         if kind == BEFORE {
             self.before.load(Ordering::SeqCst)
@@ -87,7 +87,7 @@ impl Actors {
         self.missed.store(true, Ordering::SeqCst);
     }
 
-    // Records the call. At its first call an actor waits until all others are there too.
+    // Records the call. At its first call an actor waits until all others have reached theirs too.
     fn hear<R: Clock>(&self, clock: &R, kind: u8, actor: u8, line: u32) {
         if actor < 1 || actor > 8 {
             self.strayed.store(true, Ordering::SeqCst);
@@ -163,7 +163,7 @@ fn eight_actors_are_inside_at_the_same_time(rt: HostRuntime) -> Result<(), Fail>
         );
         assert_eq!(rt; actor.heard.load(Ordering::SeqCst), HEARD);
     }
-    // No actor makes its second call before all made their first.
+    // No actor makes its second call before all actors have made their first.
     let mut order = Vec::new(alloc);
     for entry in journal.entries() {
         assert_eq!(rt; entry.reply.bytes(), b"refused nosubscriber".as_slice());

@@ -1,4 +1,4 @@
--- The calls' results and states are those of the functions, unless memory runs out.
+-- The calls' results and states agree with those of the functions, unless memory runs out.
 use Rattle.std.proofs.Common.{◌≡◌, ◌⊎◌, inl, inr, ℕ, Bool, false, List, length, refl, sym, ap, ap₂, subst, Option, Some, None, Result, Ok, Err, slice_get, arith}
 use Rattle.std.proofs.lemmas.Option.{slice_get_within}
 use Rattle.sfu_base.specs.Answer.{answer_of, is_starved}
@@ -16,7 +16,7 @@ use Rattle.simulcast.specs.Bundles.{BundledAs, CallsAs, ChoosesAt, ChoosesLeg, D
 use Rattle.simulcast.specs.Answers.{Answered, bundle_made, bundle_pumped, called_unless, choice_of, counts_of, draw_of, leg_chosen, made_at, made_unless, packet_drawn, packet_redrawn, pump_of, redraw_of, room_called, with_found}
 use Rattle.simulcast.proofs.Together.{made_there}
 
--- the object stands for the state after the call, and the call has this result
+-- the object represents the state after the call, and the call has this result
 pub record HasAnswered {R A : Type 0} (noted : R → Option (List Noted)) (b : Bundles R) (a : Answered A) (result : Result A BundleFault) : Type 0 where
   pub stands : StandsFor noted b a.after
   pub is : result ≡ a.answer
@@ -83,7 +83,7 @@ module _ {R : Type 0} (noted : R → Option (List Noted)) (new : Bundles R) (h :
           subst (λ (o : Option Made). Answers noted new (with_found h (Some i) o (λ i m. pump_of h i m (pumped_whole (record { history = h.history; made = m })))) result) (sym there.1)
           (pump_answers_at i there.0 result (says there.0 there.1))
 
-  -- ---- packets that go out
+  -- ---- outgoing packets
 
   past_the_end : (packets : List (List ℕ)) (i : ℕ) → i ≡ length packets → slice_get packets i ≡ None
   past_the_end packets i end = go (slice_get packets i) refl
@@ -128,7 +128,7 @@ module _ {R : Type 0} (noted : R → Option (List Noted)) (new : Bundles R) (h :
           subst (λ (o : Option Made). HasAnswered noted new (with_found h (Some i) o (λ i m. redraw_of h m (again_of n m))) (handed bytes result)) (sym there.1)
           (redraw_answers_at there.0 n bytes result stands (says there.0 there.1))
 
-  -- ---- a call of the room by seat 0
+  -- ---- a call on the room by seat 0
 
   pub call_answers : (call : Call) (reply : Reply) (bytes numbers : List ℕ) → CallsAs noted new h 0 call bytes numbers (forbids call h.made) (Ok reply) → is_starved reply ≡ false
       → HasAnswered noted new (room_called call h) (Ok (answer_of reply bytes numbers))

@@ -1,4 +1,4 @@
--- If no packet is queued for the active leg, a key start of the chosen leg goes out.
+-- If no packet is queued for the active leg, a key start of the chosen leg is forwarded.
 use Rattle.std.proofs.Common.{◌≡◌, ℕ, List, [], ◌∷◌, ◌++◌, refl, sym, ap, ◌∙◌}
 use Rattle.std.proofs.lemmas.List.{append-nil, append_assoc}
 use Rattle.room_core.specs.Given.{given_to}

@@ -19,7 +19,7 @@ use Rattle.simulcast.proofs.Waiting.{IsLive, called_accepted, dry_answer, given_
 
 -- ---- one take
 
--- what is queued for another subscriber is unchanged
+-- the packets queued for another subscriber are unchanged
 waits_on : (past : List Call) (m n : ℕ) → eqb m n ≡ false → waiting n (call.Take m ∷ past) ≡ waiting n past
 unfolding waiting
 waits_on past m n e = go (joined n past)
@@ -97,7 +97,7 @@ drain_ends k n (p ∷ queue) s j formed live waits =
 abbrev AreAlive : Pumping → Type 0
 AreAlive s = (k n : ℕ) → leg_at k s.made.legs ≡ Some n → (j : Joined) × (joined n (accepted s.history) ≡ Some j)
 
--- what is done remains done
+-- a leg that was drained stays drained
 record Pumps (s now : Pumping) : Type 0 where
   formed : AreWellFormed (accepted now.history)
   legs_are : now.made.legs ≡ s.made.legs

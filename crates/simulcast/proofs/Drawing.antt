@@ -1,4 +1,4 @@
--- What a bundle's ring returns.
+-- The packets that a bundle's ring returns.
 use Rattle.std.proofs.Common.{◌≡◌, ℕ, List, [], ◌∷◌, length, refl, sym, ap, ap₂, subst, ◌∙◌, Option, Some, None, Result, Ok, Err}
 use Rattle.std.specs.Prelude.{◌==◌, IfOk, OnErr, OnOk, ◌↔◌}
 use Rattle.std.specs.List.{find}
@@ -56,7 +56,7 @@ drawn b c m (Err why) before bytes is number id legs switch renumbers numbers ta
           ∙ sym (length-map (numbered m.first m.ssrc (passed_of m)) (λ (p : Sent). p.bytes) ∙ length-numbered m.first m.ssrc (passed_of m)),
     )
 
--- ---- again
+-- ---- redrawn packets
 
 not_kept_by : (o : Option Sent) (ring : Ring) (why : Refusal) (before bytes : List ℕ) → ResendsIt o ring (Err why) before bytes → why ≡ NotKept (oldest_in ring.kept ring.next) ring.next
 not_kept_by None ring why before bytes h = let same : Err why ≡ Err (NotKept (oldest_in ring.kept ring.next) ring.next) = h.0 in cc

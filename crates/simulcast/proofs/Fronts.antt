@@ -1,4 +1,4 @@
--- What was drawn is a prefix of all that goes out.
+-- The packets drawn are a prefix of all outgoing packets.
 use Rattle.std.proofs.Common.{◌≡◌, ℕ, zero, suc, Bool, true, false, cond, List, [], ◌∷◌, ◌++◌, map, take, ap, ◌∙◌, Some, slice_get, add-one}
 use Rattle.std.proofs.lemmas.List.{take-append-le}
 use Rattle.out_ring.specs.Ring.{Sent}

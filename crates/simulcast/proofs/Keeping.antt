@@ -1,4 +1,4 @@
--- What each call preserves, by the history and the bundles alone.
+-- The facts that each call preserves, for the history and the bundles alone.
 use Rattle.std.proofs.Common.{is_some, ◌≡◌, ◌≤◌, ◌<◌, ℕ, Bool, true, false, cond, List, [], ◌∷◌, eqb, refl, sym, ap, subst, ◌∙◌, arith, Option, Some, None, slice_get, slice_set}
 use Rattle.std.specs.Prelude.{◌^◌}
 use Rattle.sfu_base.specs.Answer.{Answer}
@@ -34,7 +34,7 @@ use Rattle.simulcast.proofs.WholePump.{pumped_alone, takes_nothing}
 held : (h : Simulcast) → IsKept h → AreHeld h
 held h kept = record { legs = kept.legs; apart = kept.apart; strays = kept.strays }
 
--- ---- what is guaranteed
+-- ---- the guarantees
 
 pub kept_pleases : (h : Simulcast) → IsKept h → IsPleasing h
 kept_pleases h kept = record {
@@ -43,7 +43,7 @@ kept_pleases h kept = record {
   receivers = λ i m at. made_pleases (accepted h.history) m (headline h.history kept.formed) (kept.legs i m at) (kept.strays i m at) (kept.fits i m at);
 }
 
--- ---- a call of the room
+-- ---- a call on the room
 
 -- a live subscriber's track was published
 track_known : (past : List Call) → AreAccepted past → (n : ℕ) (j : Joined) → joined n past ≡ Some j → j.track ≤ highest_track past
@@ -74,7 +74,7 @@ track_known (call.KeyWanted track ∷ past) all n j e = track_known past all.1 n
 track_known (call.Plead subscriber ∷ past) all n j e = track_known past all.1 n j e
 track_known (call.Why subscriber number ∷ past) all n j e = track_known past all.1 n j e
 
--- a call that isn't forbidden
+-- a call that no bundle forbids
 call_keeps : (h : Simulcast) (c : Call) → IsValue c → IsKept h → forbids c h.made ≡ None → IsKept (record { history = called false c h.history; made = h.made })
 call_keeps h c value kept free = record {
   formed = subst AreWellFormed (sym past_is) (well_formed_after (accepted h.history) c value kept.formed);
@@ -127,7 +127,7 @@ found_keeps {A} h number does kept keeps = go (place_of number h.made)
     go None = kept
     go (Some i) = at i (slice_get h.made i) refl
 
--- one of the bundles changed, and perhaps the history
+-- one of the bundles changed, and possibly the history
 change_keeps : (h : Simulcast) (i : ℕ) (m : Made) (s : Pumping) → IsKept h → slice_get h.made i ≡ Some m → s.made.legs ≡ m.legs → s.made.ssrc ≡ m.ssrc → AreWellFormed (accepted s.history)
     → AreLegs (accepted s.history) s.made → HasNoStrays s.made → ((p : Made) → AreStrangers m.legs p.legs → AreLegs (accepted h.history) p → AreLegs (accepted s.history) p) → IsKept (and_now h i s)
 change_keeps h i m s kept at same ssrc formed legs strays others =

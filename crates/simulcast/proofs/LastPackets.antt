@@ -1,4 +1,4 @@
--- The last packet that goes out to a subscriber of a layered track ends its frame: whole frames go out.
+-- The last packet forwarded to a subscriber of a layered track ends its frame, since whole frames are forwarded.
 use Rattle.std.proofs.Common.{◌≡◌, ◌⊎◌, inl, inr, ◌+◌, ◌%◌, ◌<◌, ◌^◌, ℕ, Bool, true, false, cond, List, [], ◌∷◌, ◌++◌, map, length, refl, sym, ap, subst, ◌∙◌, Option, Some, None, eqb}
 use Rattle.std.specs.List.{AllByRecursion}
 use Rattle.std.proofs.lemmas.List.{append_assoc, map-append}
@@ -88,7 +88,7 @@ module _ {S : Type 0} (format : Format S) where
         | inr x ↦ in_front p ps (conts_end s (f.number % 65536) h.1.carries 1 ps x.1)
       ]
 
-  -- ---- what is forwarded
+  -- ---- forwarded packets
 
   abbrev Ends : List Packet → Type 0
   Ends ps = (ps ≡ []) ⊎ EndIn format ps
@@ -120,7 +120,7 @@ module _ {S : Type 0} (format : Format S) where
   sent_whole send [] keeps numbers read whole = tt
   sent_whole send (x ∷ xs) keeps numbers read whole = (keeps x numbers.0.valid read.0 whole.0, sent_whole send xs keeps numbers.2 read.1 whole.1)
 
--- ---- of a subscriber
+-- ---- for a subscriber
 
 joined_fits : (past : List Call) (n : ℕ) (j : Joined) → AreWellFormed past → joined n past ≡ Some j → j.ssrc < 2 ^ 32
 joined_fits [] n j all e = absurd (let none : None ≡ Some j = e in cc)
@@ -171,7 +171,7 @@ module _ (id n : ℕ) (to : Subscriber) (entries : List Entry) (fits : to.ssrc <
   no_last [] x e = cc
   no_last (y ∷ ys) x e = cc
 
-  -- the last one's bytes
+  -- the bytes of the last packet
   bytes_end : (ps : List Packet) → ps ≡ forwarded (sent (Layered id)) to.wish (timeline_as (Layered id) n entries) → Ends (format_of id) ps
       → AllByRecursion ReadsBack (numbered to.first to.ssrc ps)
       → (front : List (List ℕ)) (last : List ℕ) → map bytes_of (numbered to.first to.ssrc ps) ≡ front ++ last ∷ [] → ends_frame id last ≡ true

@@ -1,4 +1,4 @@
--- If a call that takes no memory runs out of memory, the recorder did.
+-- If a call that allocates no memory runs out of memory, the recorder did.
 use Rattle.std.proofs.Common.{◌≡◌, ◌⊎◌, inl, inr, Bool, true}
 use Rattle.std.specs.Prelude.{IsTrue}
 use Rattle.sfu_base.specs.Answer.{is_starved}

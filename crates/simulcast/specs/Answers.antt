@@ -31,7 +31,7 @@ abbrev pub made_at : List Made → Option ℕ → Option Made
 made_at made None = None
 made_at made (Some i) = slice_get made i
 
--- the result for the bundle with this number, which is at this index; if no bundle has the number, the call is refused
+-- the result for the bundle with this number, which is at this index; the call is refused if no bundle has the number
 abbrev pub with_found : {A : Type 0} → Simulcast → Option ℕ → Option Made → (ℕ → Made → Answered A) → Answered A
 with_found h (Some i) (Some m) does = does i m
 with_found h _ _ does = refused_for fault.NoBundle h
@@ -39,7 +39,7 @@ with_found h _ _ does = refused_for fault.NoBundle h
 abbrev pub with_number : {A : Type 0} → ℕ → Simulcast → (ℕ → Made → Answered A) → Answered A
 with_number number h does = with_found h (place_of number h.made) (made_at h.made (place_of number h.made)) does
 
--- ---- a call of the room by seat 0
+-- ---- a call on the room by seat 0
 
 abbrev pub called_unless : Call → Simulcast → Option ℕ → Answered Answer
 called_unless call h None = done_with (reply_of h.history call) (record { history = called false call h.history; made = h.made })
@@ -69,7 +69,7 @@ leg_chosen number leg h = with_number number h (λ i m. choice_of leg h i m (leg
 
 -- ---- a pump
 
--- how many more packets are forwarded now than before, and how many of the packets taken since are dropped
+-- the number of packets forwarded since the old state, and the number of packets taken and dropped since
 abbrev pub counts_of : (old new : Made) → Pumped
 counts_of old new = record {
   forwarded = length (passed_of new) - length (passed_of old);

@@ -1,4 +1,4 @@
--- The state that a room with bundles represents, and what its calls do to it.
+-- The state that a room with bundles represents, and the effect of its calls on that state.
 use Rattle.std.specs.Prelude.{IsTrue, ⊤, ◌≡◌, ◌==◌, ◌+◌, ◌%◌, ◌≤◌, ℕ, Bool, true, false, if◌then◌else◌, List, [], ◌∷◌, ◌++◌, Option, None, Some, Result, Ok, Err, count_by, fold, is_some, max, nat_le, length, map, position, slice_get, slice_set}
 use Rattle.std.specs.List.{find, list_all}
 use Rattle.std.specs.Option.{option_map}
@@ -45,7 +45,7 @@ AreBundles [] (m ∷ ms) = ⊥
 AreBundles (b ∷ bs) [] = ⊥
 AreBundles (b ∷ bs) (m ∷ ms) = IsBundle b m × AreBundles bs ms
 
--- no subscriber is two legs, whether of one bundle or of two
+-- no subscriber is two legs, whether of the same bundle or of two bundles
 abbrev pub NoneIsTwo : List Made → Type 0
 NoneIsTwo made = (i j k l n : ℕ) (m p : Made) → slice_get made i ≡ Some m → slice_get made j ≡ Some p → leg_at k m.legs ≡ Some n
     → leg_at l p.legs ≡ Some n → (i ≡ j) × (k ≡ l)
@@ -58,7 +58,7 @@ pub record StandsFor {R : Type 0} (noted : R → Option (List Noted)) (b : Bundl
   pub strays : (i : ℕ) (m : Made) → slice_get h.made i ≡ Some m → HasNoStrays m
   pub few : length h.made ≤ 64
 
--- whether the room's recorder may refuse a call when memory runs out
+-- whether the room's recorder may refuse a call for lack of memory
 abbrev pub may_starve : {R : Type 0} → (R → Bool) → Bundles R → Bool
 may_starve may_refuse b = recorder_may_refuse may_refuse b.room
 
@@ -66,20 +66,20 @@ may_starve may_refuse b = recorder_may_refuse may_refuse b.room
 abbrev pub place_of : ℕ → List Made → Option ℕ
 place_of number made = position (λ m. m.number == number) made
 
--- the state with this history and, at this index, this bundle
+-- the state with this history and with this bundle at this index
 abbrev pub and_now : Simulcast → ℕ → Pumping → Simulcast
 and_now h i s = record { history = s.history; made = slice_set h.made i s.made }
 
 abbrev pub with_made : Simulcast → ℕ → Made → Simulcast
 with_made h i m = record { history = h.history; made = slice_set h.made i m }
 
--- ---- calls of the room
+-- ---- calls on the room
 
 -- the number of the bundle that has this subscriber as a leg, if there is one
 abbrev pub owner : ℕ → List Made → Option ℕ
 owner n made = option_map (λ m. m.number) (find (λ m. has_leg n m.legs) made)
 
--- the bundle that forbids the call, since the call's subscriber is a leg of it
+-- the bundle that forbids the call, because the call's subscriber is one of its legs
 abbrev pub forbids_by : (ℕ → Option ℕ) → Call → Option ℕ
 forbids_by own (Take n) = own n
 forbids_by own (Leave n) = own n
@@ -96,7 +96,7 @@ CallsAs noted b h seat call bytes numbers None (Ok reply) =
     (is_starved reply ≡ false → answer_of reply bytes numbers ≡ reply_of h.history call)
     × StandsFor noted b (record { history = h.history ++ record { seat = seat; call = call; starved = is_starved reply } ∷ []; made = h.made })
 
--- the only reason for which a bundle refuses a call of the room
+-- the only reason for which a bundle refuses a call on the room
 abbrev pub IsBound : BundleFault → Type 0
 IsBound (fault.Bound bundle) = ⊤
 IsBound other = ⊥
@@ -110,12 +110,12 @@ Calls noted old new seat call bytes numbers result = (h : Simulcast) → StandsF
 abbrev pub StarvesBy : {R A : Type 0} → (R → Bool) → Bundles R → Result A BundleFault → Type 0
 StarvesBy may_refuse b result = result ≡ Err NoMemory → IsTrue (may_starve may_refuse b)
 
--- the same, or the call itself takes memory
+-- the same, or the call itself allocates memory
 abbrev pub CallStarvesBy : {R : Type 0} → (R → Bool) → Bundles R → Call → Result Reply BundleFault → Type 0
 CallStarvesBy may_refuse b call (Ok reply) = MemoryHasCause may_refuse b.room call reply
 CallStarvesBy may_refuse b call (Err why) = Unit {0}
 
--- A call that isn't refused by a bundle has the effects and the reply of the room's `serve`, the scratch included; else nothing changes.
+-- A call that no bundle refuses has the effects and the reply of the room's `serve`, including those on the scratch. A refused call changes nothing.
 abbrev pub CallsWhole : {R : Type 0} → (R → Option (List Noted)) → (R → Bool) → (old new : Bundles R) → ℕ → Call → (before after : Scratch) → Result Reply BundleFault → Type 0
 CallsWhole noted may_refuse old new seat call before after (Ok reply) = ServesInto noted may_refuse old.room new.room seat call reply before after
 CallsWhole noted may_refuse old new seat call before after (Err why) = (new ≡ old) × (after ≡ before)
@@ -126,7 +126,7 @@ BundlesHeadline noted b = (h : Simulcast) → StandsFor noted b h → Headline (
 
 -- ---- a pump
 
--- a take ran out of memory: the takes before it aren't undone
+-- A take ran out of memory. The takes before it aren't undone.
 pub record PumpStops {R : Type 0} (noted : R → Option (List Noted)) (b : Bundles R) (h : Simulcast) (i : ℕ) (s : Pumping) : Type 0 where
   pub now : Pumping
   pub leg : ℕ
@@ -200,13 +200,13 @@ ChoosesAt noted b h (Some i) leg result = (m : Made) → slice_get h.made i ≡ 
 abbrev pub Chooses : {R : Type 0} → (R → Option (List Noted)) → (old new : Bundles R) → ℕ → ℕ → Result (Unit {0}) BundleFault → Type 0
 Chooses noted old new number leg result = (h : Simulcast) → StandsFor noted old h → ChoosesAt noted new h (place_of number h.made) leg result
 
--- ---- what a strict receiver finds
+-- ---- the strict receivers of the packets
 
--- A strict receiver has no complaint about any prefix of what a bundle sends.
+-- A strict receiver has no complaint about any prefix of the packets that a bundle sends.
 abbrev pub Pleases : Made → Type 0
 Pleases m = (sends queued : List (List ℕ)) → sends ++ queued ≡ outgoing_of m → complaint (format_of m.id) (map read_packet sends) ≡ None
 
--- this holds for each bundle, in any state that the bundles represent
+-- this is true of each bundle, in any state that the bundles represent
 abbrev pub PleasesReceivers : {R : Type 0} → (R → Option (List Noted)) → Bundles R → Type 0
 PleasesReceivers noted b = (h : Simulcast) (i : ℕ) (m : Made) → StandsFor noted b h → slice_get h.made i ≡ Some m → Pleases m
 
@@ -232,7 +232,7 @@ bound_or (Some bundle) twice number later = Some bundle
 bound_or None true number later = Some number
 bound_or None false number later = later
 
--- For the first leg that is bound: the bundle that has the leg already, or this bundle's number if the leg is listed twice.
+-- For the first leg that is bound: the bundle that already has the leg, or this bundle's number if the leg is listed twice.
 abbrev pub bound_leg : (ℕ → Option ℕ) → ℕ → List ℕ → List ℕ → Option ℕ
 bound_leg own number legs [] = None
 bound_leg own number legs (n ∷ later) = bound_or (own n) (nat_le 2 (count_by (λ l. l == n) legs)) number (bound_leg own number legs later)

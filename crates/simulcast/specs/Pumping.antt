@@ -1,4 +1,4 @@
--- What a pump does to a room's history and to a bundle. Own rule.
+-- The effect of a pump on a room's history and on a bundle. Own rule.
 use Rattle.std.specs.Prelude.{◌≡◌, ◌⊎◌, ◌++◌, ◌==◌, ◌||◌, ℕ, nat_le, Bool, true, false, if◌then◌else◌, List, [], ◌∷◌, Option, None, Some}
 use Rattle.std.specs.List.{AllByRecursion}
 use Rattle.sfu_base.specs.declared.call.Call.{Call}
@@ -23,7 +23,7 @@ and_took k packet m = record m { events = Took k packet ∷ m.events }
 
 -- ---- takes
 
--- a take from a leg, and the packet that it returned, if any
+-- a take from a leg, and the packet that it returned, if it returned one
 pub record LegTake : Type 0 where
   pub leg : ℕ
   pub subscriber : ℕ
@@ -38,17 +38,17 @@ abbrev pub took_all : List LegTake → Pumping → Pumping
 took_all [] s = s
 took_all (t ∷ takes) s = took_all takes (record { history = called false (Take t.subscriber) s.history; made = and_given t.leg t.packet s.made })
 
--- they are takes from legs
+-- the takes are from these legs
 abbrev pub AreOfLegs : List ℕ → List LegTake → Type 0
 AreOfLegs legs takes = AllByRecursion (λ t. leg_at t.leg legs ≡ Some t.subscriber) takes
 
--- ---- a leg until it is refused
+-- ---- a leg, until a take is refused
 
 -- 512 packets are queued
 abbrev pub is_full : Made → Bool
 is_full m = nat_le 512 (queued_of m)
 
--- Takes from the leg k, whose subscriber n has these packets queued, go on until one is refused or 512 packets of the bundle are queued.
+-- The packets `queue` are queued for n, the subscriber of the leg k. They are taken until a take is refused or 512 packets of the bundle are queued.
 abbrev pub drained : (k n : ℕ) → List (List ℕ) → Pumping → Pumping
 drained k n [] s = if is_full s.made then s else record { history = called false (Take n) s.history; made = s.made }
 drained k n (packet ∷ queue) s =
@@ -68,11 +68,11 @@ abbrev pub pumped : List (Option ℕ) → Pumping → Pumping
 pumped [] s = s
 pumped (leg ∷ legs) s = pumped legs (drained_leg leg s)
 
--- each leg's queue is empty, or 512 packets are queued
+-- each leg's queue is empty, or 512 packets of the bundle are queued
 abbrev pub IsDrained : Pumping → Type 0
 IsDrained s = (k n : ℕ) → leg_at k s.made.legs ≡ Some n → (waiting n (accepted s.history) ≡ []) ⊎ (is_full s.made ≡ true)
 
--- ---- in which order
+-- ---- the order of the legs
 
 abbrev pub unless : Bool → ℕ → Option ℕ
 unless true leg = None
@@ -82,6 +82,6 @@ unless false leg = Some leg
 abbrev pub other : Standing → ℕ → Option ℕ
 other s leg = unless (is_active leg s.active || s.chosen == leg) leg
 
--- the active leg, then the chosen leg if it is another, then the others in order
+-- the active leg, then the chosen leg if that is another one, then the other legs in order
 abbrev pub order : Standing → List (Option ℕ)
 order s = s.active ∷ unless (is_active s.chosen s.active) s.chosen ∷ other s 1 ∷ other s 2 ∷ other s 3 ∷ []

@@ -11,11 +11,12 @@ use rtp_packet::restamp;
 use sfu_base::{NoMemory, PacketBuf, Refusal};
 use std::alloc::Global;
 
-/// The most packets that a bundle queues (own rule).
+/// The maximum number of packets in a bundle's queue (own rule).
 const MOST_QUEUED: u16 = 512;
 
-/// A bundle: its number, the header extension id of its legs' dependency descriptors, its legs (numbers of subscribers), the switch with
-/// the chosen and the active leg, whether its frame numbers continue over a change of leg, the frame numbers if so, and the outgoing packets.
+/// One bundle. `number` is the bundle's number. `id` is the header extension id of the dependency descriptors on all legs. `legs` are the subscriber numbers
+/// of the legs. `switch` holds the chosen leg and the active leg. If `renumbers` is true, frame numbers continue over a change of leg, and `numbers` holds
+/// the state of this numbering. `ring` holds the outgoing packets.
 #[derive(Drop)]
 pub struct Bundle {
     pub number: u32,
@@ -35,7 +36,8 @@ impl Bundle {
     ghost use Rattle.simulcast.specs.Pumping.{and_took, order};
     ghost use Rattle.simulcast.specs.Bundle.{ChoosesIn, DrawsIn, IsBundle, RedrawsIn, numbers_next, renumbered_if};
 
-    /// A new bundle: leg 1 is chosen, no leg is active, and no packet is queued. `renumbers`: its frame numbers continue over a change of leg.
+    /// Returns a new bundle. Leg 1 is chosen, no leg is active, and no packet is queued. If `renumbers` is true, the bundle's frame numbers continue over a
+    /// change of leg.
     pub fn new(
         alloc: Global,
         number: u32,
@@ -65,14 +67,15 @@ impl Bundle {
         })
     }
 
-    /// Whether this subscriber is a leg of the bundle.
+    /// Returns whether this subscriber is a leg of the bundle.
     pub fn has(&self, subscriber: u32) -> bool
         ensures { result ≡ has_leg subscriber self.now.legs.items }
     {
         self.legs.iter().any(|leg| *leg == subscriber)
     }
 
-    /// Chooses a leg, counted from 1. Returns the leg's subscriber, or `None` if the leg is already active. `NoLeg`: there is no such leg.
+    /// Chooses the leg with this number, counted from 1. Returns the subscriber of the leg, or `None` if the leg is already active. Returns `NoLeg` if there
+    /// is no such leg.
     pub fn choose(&mut self, leg: u8) -> Result<Option<u32>, BundleFault>
         ensures chooses { ChoosesIn self.old self.new leg result }
         ensures fault { IfErr result (λ why. why ≡ BundleFault.NoLeg (length self.old.legs.items)) }
@@ -90,7 +93,7 @@ impl Bundle {
         }
     }
 
-    /// Dequeues the oldest packet, writes it to `out`, and returns its sequence number. `Empty`: no packet is queued.
+    /// Dequeues the oldest packet, writes the packet to `out`, and returns the packet's sequence number. Returns `Empty` if no packet is queued.
     pub fn draw(&mut self, out: &mut PacketBuf) -> Result<u16, Refusal>
         ensures draws { DrawsIn self.old self.new out.new result }
         ensures unchanged { OnErr result (out.new ≡ out.old) }
@@ -98,8 +101,8 @@ impl Bundle {
         self.ring.take(out)
     }
 
-    /// Writes the packet that was drawn with this sequence number to `out` again. `NotKept`: the packet isn't among the last 1,024 packets that were
-    /// drawn.
+    /// Writes a packet that was drawn before to `out` again. `seq` is the packet's sequence number. Returns `NotKept` if the packet isn't among the last
+    /// 1,024 packets drawn.
     pub fn redraw(&self, seq: u16, out: &mut PacketBuf) -> Result<(), Refusal>
         ensures redraws { RedrawsIn self.now seq out.new result }
         ensures unchanged { OnErr result (out.new ≡ out.old) }
@@ -107,7 +110,7 @@ impl Bundle {
         self.ring.resend(seq, out)
     }
 
-    /// The legs in the order in which a pump takes from them, counted from 1. Each `None` is skipped.
+    /// Returns the numbers of the legs, counted from 1, in the order in which a pump takes packets from them. The pump skips each `None`.
     pub fn order(&self) -> [Option<u8>; 5]
         ensures { result ≡ order self.now.switch }
     {
@@ -122,7 +125,7 @@ impl Bundle {
         ]
     }
 
-    /// The subscriber of this leg, counted from 1, or `None` if there is no such leg.
+    /// Returns the subscriber of the leg with this number, counted from 1, or `None` if there is no such leg.
     pub fn leg(&self, leg: u8) -> Option<u32>
         ensures { result ≡ leg_at leg self.now.legs.items }
     {
@@ -132,21 +135,22 @@ impl Bundle {
         }
     }
 
-    /// How many packets are queued.
+    /// Returns the number of queued packets.
     pub fn queued(&self) -> u16
         ensures { result ≡ length self.now.ring.queued }
     {
         self.ring.queued()
     }
 
-    /// Whether 512 packets are queued, which is the maximum.
+    /// Returns whether the queue is full: at least 512 packets are queued.
     pub fn is_full(&self) -> bool
         ensures { result ≡ nat_le 512 (length self.now.ring.queued) }
     {
         self.ring.queued() >= MOST_QUEUED
     }
 
-    // Gives a forwarded packet its frame number, if the bundle's frame numbers continue. `active` is the leg that was active before.
+    // Writes the new frame number into a forwarded packet, if the bundle's frame numbers continue over a change of leg. `active` is the leg that was active
+    // before this packet.
     fn renumber(&mut self, active: Option<u8>, leg: u8, packet: &mut PacketBuf)
         requires { first_fault packet.old ≡ None }
         ensures numbers { self.new ≡ record self.old { numbers = numbers_next self.old.renumbers self.old.id active self.old.numbers leg packet.old } }
@@ -159,7 +163,7 @@ impl Bundle {
         }
     }
 
-    /// Decides on a packet taken from a leg: queues it with its new timestamp and frame number, or drops it.
+    /// Handles a packet that was taken from a leg. Either queues the packet, with its new timestamp and frame number, or drops it.
     pub fn take_in(&mut self, leg: u8, packet: &mut PacketBuf, newest: &mut NewestDescriptor)
         requires room { length self.old.ring.queued < 512 }
         requires reads { first_fault packet.old ≡ None }

@@ -13,12 +13,12 @@ use room_core::{Recorder, Room};
 use sfu_base::{Call, Kind, PacketBuf, Refusal, Reply, Scratch};
 use std::alloc::Global;
 
-/// The most bundles of a room (own rule).
+/// The maximum number of bundles in a room (own rule).
 const MOST_BUNDLES: usize = 64;
 
-/// A room with bundles. A bundle merges the packets sent to its legs, two or three subscribers of the room, into one outgoing stream. `choose`
-/// selects the leg to forward, `pump` takes the packets queued for the legs, `draw` returns the stream's next packet, and `redraw` returns a packet
-/// that was drawn before. Bundles and their legs are never removed.
+/// A room with bundles. The legs of a bundle are two or three subscribers of the room. The bundle merges the packets that are sent to its legs into one
+/// outgoing stream. `choose` selects the leg to forward. `pump` takes the packets that are queued for the legs. `draw` returns the next packet of the
+/// outgoing stream. `redraw` returns a packet that was drawn before. Bundles and legs are never removed.
 #[derive(Drop)]
 pub struct Bundles<R: Recorder> {
     alloc: Global,
@@ -27,14 +27,14 @@ pub struct Bundles<R: Recorder> {
     bundles: Vec<Bundle>,
 }
 
-// Whether a leg is listed more than once.
+// Returns whether `leg` occurs more than once in `legs`.
 fn stands_twice(legs: &[u32], leg: u32) -> bool
     ensures { result ≡ nat_le 2 (count_by (λ l. l == leg) legs.now) }
 {
     legs.iter().filter(|l| **l == leg).count() >= 2
 }
 
-// The number of the bundle that a leg belongs to: `owner`, or `number` if the leg is listed twice.
+// Returns `owner`, the bundle to which a leg already belongs, if there is one. Otherwise returns `number` if the leg is listed twice, and `None` if not.
 fn bound_or(owner: Option<u32>, twice: bool, number: u32) -> Option<u32>
     ensures { result ≡ bound_or owner twice number None }
 {
@@ -44,7 +44,7 @@ fn bound_or(owner: Option<u32>, twice: bool, number: u32) -> Option<u32>
     }
 }
 
-// Whether a track of this kind is layered, with this header extension id.
+// Returns whether a track's kind is layered with this header extension id. Returns false if `kind` is a refusal.
 fn is_layered(kind: Result<Kind, Refusal>, id: u8) -> bool
     ensures { result ≡ is_layered id (result_ok kind) }
 {
@@ -66,7 +66,7 @@ impl<R: Recorder> Bundles<R> {
     ghost use Rattle.simulcast.specs.Bundles.{Bundled, BundlesHeadline, Calls, CallsWhole, CallStarvesBy, Chooses, Draws, IsBound, PleasesReceivers, PumpsOne, Redraws, Simulcast, StandsFor, StarvesBy};
     ghost use Rattle.simulcast.specs.Bundles.{bound_leg, bundle_refusal, forbids_by, has_kind, is_live, may_starve, nothing_made};
 
-    /// The room, with no bundle yet. Allocates no memory.
+    /// Returns this room, without bundles. Allocates no memory.
     pub fn new(alloc: Global, room: Room<R>) -> Bundles<R>
         ensures stands { (history : List Entry) → Stands R.noted room history → StandsFor R.noted result (nothing_made history) }
         ensures recorder { may_starve R.may_refuse result ≡ recorder_may_refuse R.may_refuse room }
@@ -79,14 +79,14 @@ impl<R: Recorder> Bundles<R> {
         }
     }
 
-    /// The room, for its questions. Every call of the room goes through `call` or `take`.
+    /// Returns the room, for read-only questions. Every call on the room goes through `call`, `take`, `packet` or `tick`.
     pub fn room(&self) -> &Room<R>
         ensures { result.now ≡ self.now.room }
     {
         &self.room
     }
 
-    // The index of the bundle with this number, if there is one.
+    // Returns the index of the bundle with this number, or `None` if no bundle has the number.
     fn place(&self, number: u32) -> Option<usize>
         ensures { result ≡ position (λ b. b.number == number) self.now.bundles.items }
     {
@@ -95,17 +95,7 @@ impl<R: Recorder> Bundles<R> {
             .position(|bundle| bundle.number == number)
     }
 
-    // The number of the bundle that has this subscriber as a leg, if there is one.
-    fn owner(&self, subscriber: u32) -> Option<u32>
-        ensures { result ≡ option_map (λ b. b.number) (find (λ b. has_leg subscriber b.legs.items) self.now.bundles.items) }
-    {
-        match self.bundles.iter().find(|bundle| bundle.has(subscriber)) {
-            Some(bundle) => Some(bundle.number),
-            None => None,
-        }
-    }
-
-    // The highest number of all bundles, or 0 if there is none.
+    // Returns the highest bundle number, or 0 if there is no bundle.
     fn highest(&self) -> u32
         ensures { result ≡ fold (λ h b. max h b.number) 0 self.now.bundles.items }
     {
@@ -114,7 +104,7 @@ impl<R: Recorder> Bundles<R> {
             .fold(0, |highest: u32, bundle| highest.max(bundle.number))
     }
 
-    // Whether all these legs are live subscribers.
+    // Returns whether all these legs are live subscribers.
     fn are_live(&self, legs: &[u32]) -> bool
         ensures { (history : List Entry) → Stands R.noted self.now.room history → result ≡ list_all (is_live (accepted history)) legs.now }
     {
@@ -126,7 +116,7 @@ impl<R: Recorder> Bundles<R> {
         true
     }
 
-    // Whether the tracks of all these legs are layered, with this header extension id.
+    // Returns whether the tracks of all these legs are layered with this header extension id.
     fn are_layered(&self, legs: &[u32], id: u8) -> bool
         ensures { (history : List Entry) → Stands R.noted self.now.room history → result ≡ list_all (has_kind id (accepted history)) legs.now }
     {
@@ -138,7 +128,8 @@ impl<R: Recorder> Bundles<R> {
         true
     }
 
-    // For the first leg that is bound: the number of the bundle that already has the leg, or `number` if the leg is listed twice.
+    // Looks for the first leg that already belongs to a bundle or is listed twice. If the leg belongs to a bundle, returns the number of this bundle. If the
+    // leg is only listed twice, returns `number`. Returns `None` if there is no such leg.
     fn bound(&self, number: u32, legs: &[u32]) -> Option<u32>
         ensures { result ≡ bound_leg (λ n. option_map (λ b. b.number) (find (λ b. has_leg n b.legs.items) self.now.bundles.items)) number legs.now legs.now }
     {
@@ -150,7 +141,7 @@ impl<R: Recorder> Bundles<R> {
         None
     }
 
-    // The first refusal that applies to a new bundle with this number and these legs.
+    // Returns the first refusal that applies to a new bundle with this number, header extension id and legs, or `None` if none applies.
     fn refusal(&self, number: u32, id: u8, legs: &[u32]) -> Option<BundleFault>
         ensures { (h : Simulcast) → StandsFor R.noted self.now h → result ≡ bundle_refusal h number id legs.now }
     {
@@ -176,10 +167,11 @@ impl<R: Recorder> Bundles<R> {
         }
     }
 
-    /// Creates a bundle of two or three legs, which are subscribers of layered tracks with the header extension id `id`. The bundle sends with this
-    /// SSRC, and with sequence numbers from `first` on. Leg 1 is chosen. `NumberUsed`: the number isn't above the highest number of a bundle (0 if
-    /// there is none). `TooMany`: there are 64 bundles. `Room(NoSubscriber)`: a leg isn't a live subscriber. `Bound`: a leg belongs to the bundle
-    /// `bundle`, or is listed twice (`bundle` is then `number`). `WrongKind`: a leg's track isn't layered with this id. `NoMemory` is checked last.
+    /// Creates a bundle of two or three legs. The legs must be subscribers of layered tracks with the header extension id `id`. The bundle's packets have
+    /// this SSRC, and their sequence numbers start at `first`. Leg 1 is chosen. `NumberUsed`: `number` isn't above the highest bundle number, or is 0.
+    /// `TooMany`: there are 64 bundles already. `Room(NoSubscriber)`: a leg isn't a live subscriber. `Bound`: a leg belongs to bundle `bundle`, or is listed
+    /// twice. For a leg that is only listed twice, `bundle` is `number`. `WrongKind`: a leg's track isn't layered with this id. `NoMemory`: memory ran out.
+    /// This error is checked last.
     pub fn bundle(
         &mut self,
         number: u32,
@@ -196,9 +188,9 @@ impl<R: Recorder> Bundles<R> {
         self.add(number, id, ssrc, first, legs, false)
     }
 
-    /// Creates a bundle as `bundle` does, with the same refusals, whose frame numbers continue over a change of leg: the key frame with which a leg
-    /// becomes active gets the frame number of the last forwarded frame plus 1, modulo 65,536, and the leg's later frames keep their distances to it. In
-    /// each packet only the two bytes of the dependency descriptor's frame_number change (AV1 RTP payload format, Appendix A).
+    /// Creates a bundle as `bundle` does, with the same refusals. The frame numbers of this bundle continue over a change of leg. When a leg becomes active,
+    /// its key frame gets the frame number of the last forwarded frame plus 1, modulo 65,536. Later frames of the leg keep their distance to this key frame.
+    /// In each packet, renumbering changes only the two bytes of frame_number in the dependency descriptor (AV1 RTP payload format, Appendix A).
     pub fn bundle_renumbered(
         &mut self,
         number: u32,
@@ -215,7 +207,7 @@ impl<R: Recorder> Bundles<R> {
         self.add(number, id, ssrc, first, legs, true)
     }
 
-    // Adds a bundle of at most three legs.
+    // Creates a bundle of at most three legs. If `renumbers` is true, the bundle's frame numbers continue over a change of leg.
     fn add(
         &mut self,
         number: u32,
@@ -241,7 +233,7 @@ impl<R: Recorder> Bundles<R> {
         }
     }
 
-    // The number of the bundle that forbids a call, if one does.
+    // Returns the number of the bundle that forbids this call, or `None` if no bundle forbids it.
     fn forbids(&self, call: &Call) -> Option<u32>
         ensures { result ≡ forbids_by (λ n. option_map (λ b. b.number) (find (λ b. has_leg n b.legs.items) self.now.bundles.items)) call.now }
     {
@@ -252,8 +244,8 @@ impl<R: Recorder> Bundles<R> {
         }
     }
 
-    /// Serves a call of a seat on the room, as `Room::serve` does. `Bound`: the call is a `Take` or a `Leave` of a subscriber that is a leg of that
-    /// bundle. Nothing changes then, not even the scratch.
+    /// Serves a call from this seat on the room, as `Room::serve` does. Returns `Bound` if the call is a `Take` or a `Leave`, and the subscriber is a leg of
+    /// bundle `bundle`. In this case nothing changes, including the scratch.
     pub fn call(
         &mut self,
         seat: u32,
@@ -272,27 +264,32 @@ impl<R: Recorder> Bundles<R> {
         }
     }
 
-    /// Takes the oldest packet that is queued for a subscriber, as `Room::take` does: `call` with `Call::Take` does the same. `Bound`: the subscriber is a
-    /// leg of that bundle. Nothing changes then, not even the scratch.
-    pub fn take(
-        &mut self,
-        seat: u32,
-        subscriber: u32,
-        scratch: &mut Scratch,
-    ) -> Result<Reply, BundleFault>
-        ensures calls { Calls R.noted self.old self.new seat (call.Take subscriber) scratch.new.packet scratch.new.names result }
-        ensures whole { CallsWhole R.noted R.may_refuse self.old self.new seat (call.Take subscriber) scratch.old scratch.new result }
-        ensures memory { CallStarvesBy R.may_refuse self.old (call.Take subscriber) result }
-        ensures only { IfErr result IsBound }
-        ensures recorder { may_starve R.may_refuse self.new ≡ may_starve R.may_refuse self.old }
+    /// Returns the number of the bundle that has this subscriber as a leg, or `None` if the subscriber isn't a leg. Of the calls on a leg, `call` refuses
+    /// exactly `Take` and `Leave` with `Bound`.
+    #[inline(always)]
+    pub fn owner(&self, subscriber: u32) -> Option<u32>
+        ensures { result ≡ option_map (λ b. b.number) (find (λ b. has_leg subscriber b.legs.items) self.now.bundles.items) }
     {
-        match self.owner(subscriber) {
-            Some(bundle) => Err(BundleFault::Bound { bundle }),
-            None => Ok(self.room.take(seat, subscriber, scratch)),
+        match self.bundles.iter().find(|bundle| bundle.has(subscriber)) {
+            Some(bundle) => Some(bundle.number),
+            None => None,
         }
     }
 
-    /// Adds a packet that arrives at `moment` to a track, as `Room::packet` does: `call` with `Call::Packet` does the same, since no bundle forbids it.
+    /// Takes the oldest packet that is queued for a subscriber, as `Room::take` does. `call` with `Call::Take` does the same. The subscriber must not be a
+    /// leg, so check [`Bundles::owner`] first.
+    pub fn take(&mut self, seat: u32, subscriber: u32, scratch: &mut Scratch) -> Reply
+        requires free { option_map (λ b. b.number) (find (λ b. has_leg subscriber b.legs.items) self.old.bundles.items) ≡ None }
+        ensures calls { Calls R.noted self.old self.new seat (call.Take subscriber) scratch.new.packet scratch.new.names (Ok result) }
+        ensures whole { CallsWhole R.noted R.may_refuse self.old self.new seat (call.Take subscriber) scratch.old scratch.new (Ok result) }
+        ensures memory { CallStarvesBy R.may_refuse self.old (call.Take subscriber) (Ok result) }
+        ensures recorder { may_starve R.may_refuse self.new ≡ may_starve R.may_refuse self.old }
+    {
+        self.room.take(seat, subscriber, scratch)
+    }
+
+    /// Adds a packet that arrives at `moment` to a track, as `Room::packet` does. `call` with `Call::Packet` does the same, since no bundle forbids this
+    /// call.
     pub fn packet(&mut self, seat: u32, track: u32, moment: u64, packet: &PacketBuf) -> Reply
         ensures calls { (bytes numbers : List ℕ)
             → Calls R.noted self.old self.new seat (call.Packet track moment packet.now) bytes numbers (Ok result) }
@@ -302,7 +299,7 @@ impl<R: Recorder> Bundles<R> {
         self.room.packet(seat, track, moment, packet)
     }
 
-    /// Advances a track's time to `moment`, as `Room::tick` does: `call` with `Call::Tick` does the same, since no bundle forbids it.
+    /// Advances a track's time to `moment`, as `Room::tick` does. `call` with `Call::Tick` does the same, since no bundle forbids this call.
     pub fn tick(&mut self, seat: u32, track: u32, moment: u64) -> Reply
         ensures calls { (bytes numbers : List ℕ) → Calls R.noted self.old self.new seat (call.Tick track moment) bytes numbers (Ok result) }
         ensures does { DoesAsServe R.noted R.may_refuse self.old.room self.new.room seat (call.Tick track moment) result }
@@ -311,9 +308,9 @@ impl<R: Recorder> Bundles<R> {
         self.room.tick(seat, track, moment)
     }
 
-    /// Takes the packets queued for the bundle's legs: from the active leg, then from the chosen leg if it is another, then from the others in order.
-    /// Takes from a leg go on until the leg's queue is empty, or 512 packets of the bundle are queued. `NoBundle`: no bundle has the number.
-    /// `NoMemory`: a take ran out of memory; the takes before it aren't undone.
+    /// Takes the packets that are queued for the bundle's legs. The active leg comes first, then the chosen leg if it is another leg, then the other legs in
+    /// order. The pump takes from a leg until the leg's queue is empty, or until 512 packets of the bundle are queued. `NoBundle`: no bundle has this number.
+    /// `NoMemory`: a take ran out of memory. Earlier takes aren't undone.
     pub fn pump(&mut self, number: u32, scratch: &mut Scratch) -> Result<Pumped, BundleFault>
         ensures pumps { PumpsOne R.noted self.old self.new number result }
         ensures unchanged { result ≡ Err BundleFault.NoBundle → scratch.new ≡ scratch.old }
@@ -336,8 +333,8 @@ impl<R: Recorder> Bundles<R> {
         }
     }
 
-    /// Dequeues the bundle's oldest packet, writes it to `out`, and returns its sequence number. `NoBundle`: no bundle has the number. `Room(Empty)`:
-    /// no packet is queued. After an error `out` is unchanged.
+    /// Dequeues the bundle's oldest packet, writes the packet to `out`, and returns the packet's sequence number. `NoBundle`: no bundle has this number.
+    /// `Room(Empty)`: no packet is queued. After an error, `out` is unchanged.
     pub fn draw(&mut self, number: u32, out: &mut PacketBuf) -> Result<u16, BundleFault>
         ensures draws { Draws R.noted self.old self.new number out.new result }
         ensures unchanged { OnErr result (out.new ≡ out.old) }
@@ -352,8 +349,8 @@ impl<R: Recorder> Bundles<R> {
         }
     }
 
-    /// Writes the packet that was drawn with this sequence number to `out` again. `NoBundle`: no bundle has the number. `Room(NotKept)`: none of the
-    /// last 1,024 packets drawn has the sequence number. After an error `out` is unchanged.
+    /// Writes a packet that was drawn from the bundle before to `out` again. `seq` is the packet's sequence number. `NoBundle`: no bundle has this number.
+    /// `Room(NotKept)`: none of the last 1,024 packets drawn has this sequence number. After an error, `out` is unchanged.
     pub fn redraw(&self, number: u32, seq: u16, out: &mut PacketBuf) -> Result<(), BundleFault>
         ensures redraws { Redraws R.noted self.now number seq out.new result }
         ensures unchanged { OnErr result (out.new ≡ out.old) }
@@ -367,8 +364,9 @@ impl<R: Recorder> Bundles<R> {
         }
     }
 
-    /// Chooses a leg, counted from 1. If the leg isn't active, seat 0 pleads for a key frame of the leg's track. `NoBundle`: no bundle has the
-    /// number. `NoLeg`: the bundle has no such leg. `NoMemory`: the plea ran out of memory, but the leg is chosen.
+    /// Chooses the leg with this number, counted from 1. If the leg isn't active, requests a key frame of the leg's track, as a `plead` by seat 0 does.
+    /// `NoBundle`: no bundle has this number. `NoLeg`: the bundle has no such leg. `NoMemory`: the key frame request ran out of memory, but the leg is
+    /// chosen.
     pub fn choose(&mut self, number: u32, leg: u8, scratch: &mut Scratch) -> Result<(), BundleFault>
         ensures chooses { Chooses R.noted self.old self.new number leg result }
         ensures memory { StarvesBy R.may_refuse self.old result }

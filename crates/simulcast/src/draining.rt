@@ -11,10 +11,10 @@ use dd_descriptor::NewestDescriptor;
 use room_core::{Recorder, Room};
 use sfu_base::{NoMemory, Scratch};
 
-/// One more than the 512 packets of a full queue. A subscriber's queue is empty after this many takes.
+/// One more than the 512 packets of a full queue. After 513 takes, a subscriber's queue is empty.
 const MOST_TAKES: u32 = 513;
 
-// Takes the packets queued for a leg, until its queue is empty or the bundle has 512 packets queued. Returns how many packets were taken.
+// Takes packets from a leg until the leg's queue is empty, or until the bundle has 512 packets queued. Returns the number of packets taken.
 fn drain<R: Recorder>(
     room: &mut Room<R>,
     bundle: &mut Bundle,
@@ -46,7 +46,7 @@ fn drain<R: Recorder>(
     Ok(MOST_TAKES)
 }
 
-// Drains this leg of the bundle, if there is such a leg. Returns how many packets were taken.
+// Drains the leg with this number, if the bundle has such a leg. Returns the number of packets taken.
 fn drain_leg<R: Recorder>(
     room: &mut Room<R>,
     bundle: &mut Bundle,
@@ -70,7 +70,7 @@ fn drain_leg<R: Recorder>(
     }
 }
 
-// Drains these legs, one after another. Returns how many packets were taken.
+// Drains the legs with these numbers, in this order. Returns the number of packets taken.
 fn drain_legs<R: Recorder>(
     room: &mut Room<R>,
     bundle: &mut Bundle,
@@ -94,8 +94,8 @@ fn drain_legs<R: Recorder>(
     Ok(taken)
 }
 
-/// Takes the packets queued for the legs of a bundle: from the active leg, then from the chosen leg if it is another, then from the others in order.
-/// Takes from a leg go on until the leg's queue is empty, or 512 packets of the bundle are queued.
+/// Takes the packets that are queued for the legs of a bundle. The active leg comes first, then the chosen leg if it is another leg, then the other legs in
+/// order. For each leg, the takes stop when the leg's queue is empty, or when 512 packets of the bundle are queued.
 pub fn pump<R: Recorder>(
     room: &mut Room<R>,
     bundle: &mut Bundle,

@@ -7,14 +7,14 @@ ghost use Rattle.rtp_packet.specs.Fields.{marker_of};
 
 use sfu_base::{Refusal, Reply};
 
-/// Whether a reply says that the call ran out of memory.
+/// Returns whether a reply says that the call ran out of memory.
 pub fn is_starved(reply: &Reply) -> bool
     ensures { result ≡ is_starved reply.now }
 {
     matches!(reply, Reply::Refused(Refusal::NoMemory))
 }
 
-/// Whether a reply is a packet.
+/// Returns whether a reply is a packet.
 pub fn is_packet(answer: &Reply) -> bool
     ensures packet { result ≡ true → answer.now ≡ reply.Packet }
     ensures none { result ≡ false → answer.now ≡ reply.Packet → ⊥ }
@@ -22,7 +22,7 @@ pub fn is_packet(answer: &Reply) -> bool
     matches!(answer, Reply::Packet)
 }
 
-/// A packet's marker bit, the highest bit of its second byte (RFC 3550, section 5.1).
+/// Returns a packet's marker bit, the highest bit of its second byte (RFC 3550, section 5.1).
 #[tactic(auto, using(rtp_packet::proofs::Faultless::header_there))]
 pub fn marker(packet: &[u8]) -> bool
     requires { first_fault packet.now ≡ None }

@@ -9,19 +9,19 @@ use std::test::Fail;
 
 const LAYERED: Kind = Kind::Layered { id: 4 };
 
-// A call and what it returns.
+// A call and its expected result.
 #[derive(Clone, Copy)]
 enum Step {
-    // Of a kind, with a number and an SSRC.
+    // The track's kind, number and SSRC.
     Publish(Kind, u32, u32),
-    // Subscriber and track.
+    // The subscriber and its track.
     Join(u32, u32),
-    // Of track 1 or 2: sequence number and descriptor.
+    // Track 1 or 2, the packet's sequence number, and its descriptor.
     Came(u32, u16, &'static [u8]),
     Take(u32, Result<Reply, BundleFault>),
     Leave(u32, Result<Reply, BundleFault>),
     KeyWanted(u32, bool),
-    // Number, header extension id, legs.
+    // The bundle's number, header extension id and legs.
     Bundle(u32, u8, &'static [u32], Result<(), BundleFault>),
     Renumbered(u32, u8, &'static [u32], Result<(), BundleFault>),
     Choose(u32, u8, Result<(), BundleFault>),
@@ -34,7 +34,7 @@ fn pumped(forwarded: u32, dropped: u32) -> Result<Pumped, BundleFault> {
     Ok(Pumped { forwarded, dropped })
 }
 
-// Key frames 1 and 3 of one decode target, and frames 2 and 3 that each refer to the frame before.
+// The descriptors of frames with one decode target: the key frames 1 and 3, and the delta frames 2 and 3. Each delta frame refers to the previous frame.
 const KEY_1: &[u8] = b"\x00\x03\x48\xc0\x00\x01\x80\x00\x3a\x41\x01\x00\x00\x00\x18\x30\x00";
 
 const KEY_3: &[u8] = b"\x00\x03\x48\xc0\x00\x03\x80\x00\x3a\x41\x01\x00\x00\x00\x18\x30\x00";
@@ -43,8 +43,8 @@ const FRAME_2: &[u8] = b"\x00\x01\x42\xc1\x00\x02\x10\x30\x00";
 
 const FRAME_3: &[u8] = b"\x00\x01\x42\xc1\x00\x03\x10\x30\x00";
 
-// The first packet as it is sent, with the mask of its target, and the packets after it. The last one's timestamp is 3,000 higher, as leg 2
-// is active then.
+// The packets of the outgoing stream, 10 to 13. The descriptors of packets 10 and 13 carry the bitmask of active decode targets. The timestamp of packet 13
+// is 3,000 higher, since leg 2 has become active.
 const OUT_10: &[u8] =
     b"\x90\xe0\x00\x0a\x00\x00\x00\x00\x55\x55\x55\x55\xbe\xde\x00\x03\x48\xc0\x00\x01\xc0\x00\x3a\x41\x01\x40\x00\x00\x18\x30\x00";
 
@@ -57,7 +57,7 @@ const OUT_12: &[u8] =
 const OUT_13: &[u8] =
     b"\x90\xe0\x00\x0d\x00\x00\x0b\xb8\x55\x55\x55\x55\xbe\xde\x00\x03\x48\xc0\x00\x03\xc0\x00\x3a\x41\x01\x40\x00\x00\x18\x30\x00";
 
-// A packet with the marker, of one frame.
+// A packet that holds one frame and has the marker bit.
 fn packet(track: u32, seq: u16, rest: &[u8]) -> PacketBuf {
     let [high, low] = seq.to_be_bytes();
     let ssrc = if track == 1 { 0x11 } else { 0x44 };
@@ -122,7 +122,11 @@ fn room_step(rt: &impl Abort, bundles: &mut Bundles<KeepNone>, step: Step) {
         }
         Step::Take(subscriber, wanted) => {
             call(rt, bundles, Call::Take { subscriber }, wanted);
-            assert_eq!(rt; bundles.take(0, subscriber, &mut scratch()), wanted);
+            let took = match bundles.owner(subscriber) {
+                Some(bundle) => Err(BundleFault::Bound { bundle }),
+                None => Ok(bundles.take(0, subscriber, &mut scratch())),
+            };
+            assert_eq!(rt; took, wanted);
         }
         Step::Leave(subscriber, wanted) => call(rt, bundles, Call::Leave { subscriber }, wanted),
         Step::KeyWanted(track, wanted) => {
@@ -207,7 +211,7 @@ fn one_stream_goes_out_of_two_tracks(rt: HostRuntime) {
         Step::Redraw(1, 12, Ok(()), OUT_12),
         Step::Redraw(1, 14, Err(BundleFault::Room(not_kept)), &[]),
         Step::Pump(1, pumped(0, 0)),
-        // no key frame is requested of the active leg
+        // no key frame is requested from the active leg
         Step::Choose(1, 2, Ok(())),
         Step::KeyWanted(2, false),
         // refused calls, in the order in which the refusals are checked
@@ -239,7 +243,8 @@ fn one_stream_goes_out_of_two_tracks(rt: HostRuntime) {
     }
 }
 
-// Leg 1's frame 2, then key frame 1 of leg 2 as frame 3 with a timestamp that is 3,000 higher, and leg 2's frame 2 as frame 4.
+// Packet 11 holds frame 2 of leg 1. Packet 12 holds key frame 1 of leg 2, renumbered to 3, with a timestamp that is 3,000 higher. Packet 13 holds frame 2 of
+// leg 2, renumbered to 4.
 const KEPT_11: &[u8] =
     b"\x90\xe0\x00\x0b\x00\x00\x00\x00\x55\x55\x55\x55\xbe\xde\x00\x01\x42\xc1\x00\x02\x10\x30\x00";
 

@@ -1,4 +1,4 @@
--- The packets that are left begin with the next one.
+-- The packets that remain begin with the next one.
 use Rattle.std.proofs.Common.{◌≡◌, ℕ, zero, suc, ◌+◌, ◌-◌, ◌<◌, Bool, true, false, cond, List, [], ◌∷◌, ◌++◌, map, drop, length, refl, sym, ap, ◌∙◌, arith}
 use Rattle.std.proofs.lemmas.Bool.{eqb-true}
 use Rattle.std.proofs.lemmas.List.{length-map}
@@ -29,7 +29,7 @@ unfolding parts_of
 length-parts_of frame =
     length-map (numbers 0 (packet_count frame)) (λ (part : ℕ). (frame, part)) ∙ length-numbers 0 (packet_count frame)
 
--- the parts from a frame on are its own and those behind it
+-- the parts from a frame on are its own and those of the frames after it
 parts_from-frame : (frames frame : ℕ) → frame < frames
     → parts_from frame (frames - frame) ≡ parts_of frame ++ parts_from (frame + 1) (frames - (frame + 1))
 unfolding parts_from
@@ -52,7 +52,7 @@ placed-cons : (frame part sequence : ℕ) (rest : List (ℕ × ℕ))
 unfolding placed
 placed-cons frame part sequence rest = refl
 
--- the parts behind a packet, whether it ends its frame or not
+-- the parts after a packet, whether it ends its frame or not
 behind : (frames : ℕ) (p : Place) (b : Bool) → ends_frame p ≡ b → p.frame < frames → p.part < packet_count p.frame
     → placed (p.sequence + 1) (drop (suc p.part) (parts_from p.frame (frames - p.frame)))
     ≡ packets_from frames (cond b (record { frame = p.frame + 1; part = 0; sequence = p.sequence + 1 }) (record { frame = p.frame; part = p.part + 1; sequence = p.sequence + 1 }))
@@ -82,7 +82,7 @@ packets_from-next frames p h in_frame =
     ap (placed p.sequence) first ∙ placed-cons p.frame p.part p.sequence (drop (suc p.part) all)
     ∙ ap (λ (ps : List Place). p ∷ ps) (behind frames p (ends_frame p) refl h in_frame)
 
--- behind the last frame no packet is left
+-- after the last frame no packet remains
 pub packets_from-end : (frames : ℕ) (p : Place) → p.frame ≡ frames → p.part ≡ 0 → packets_from frames p ≡ []
 unfolding packets_from parts_from placed
 packets_from-end frames p e first =

@@ -1,4 +1,4 @@
--- What a state has yet to return, before a call and after it.
+-- The events that a state has yet to return, before a call and after it.
 use Rattle.std.proofs.Common.{◌≡◌, ℕ, ◌+◌, ◌-◌, ◌*◌, ◌<◌, zero, suc, ◌≤◌, Bool, true, false, cond, List, [], ◌∷◌, ◌++◌, map, refl, sym, ap, ◌∙◌, subst, arith, Option, Some, None}
 use Rattle.std.proofs.lemmas.Bool.{eqb-false, eqb-true}
 use Rattle.std.specs.Prelude.{is_none, not, replicate, ◌==◌, ◌&&◌}
@@ -24,7 +24,7 @@ use Rattle.stream_maker.specs.Left.{behind, copies, held_after, place_after, cou
 use Rattle.stream_maker.proofs.PacketsLeft.{packets_from-next, packets_from-end}
 use Rattle.stream_maker.proofs.TurnsLeft.{one_turn}
 
--- ---- what is given
+-- ---- the events that are returned
 
 pub gives_first : (old new : Making) (g : Given) (event : Event) (out out' : List ℕ)
     → old.left ≡ g ∷ new.left → new.counts ≡ g.counts → event ≡ g.event → out' ≡ filled g.place out → Gives old new event out out'
@@ -43,14 +43,14 @@ gives_of : (old mid new : Making) (event : Event) (out out' : List ℕ) (xs : Li
 gives_of old mid new event out out' [] same h = (h.0, h.1 ∙ sym (same refl), h.2)
 gives_of old mid new event out out' (g ∷ xs) same h = h
 
--- the same is given where the same is left; where nothing is, the two are one
+-- Where the same events remain, the same event is returned. Where no event remains, the two states are equal.
 pub gives-same_left : (old mid new : Making) (event : Event) (out out' : List ℕ)
     → mid.left ≡ old.left → (old.left ≡ [] → old ≡ mid) → Gives mid new event out out' → Gives old new event out out'
 gives-same_left old mid new event out out' left same h =
     let P : List Given → Type 0 = λ xs. GivesNext xs mid new event out out' in
     gives_of old mid new event out out' old.left same (subst P left h)
 
--- ---- what is due
+-- ---- the events that are due
 
 due_events-parts : (counts : Counts) (due : Due) (ps : List Place) (t : Option ℕ) → due_places due ≡ ps → due_tick due ≡ t
     → due_events counts due ≡ map (sent_event counts) ps ++ map (tick_event counts) (option_to_list t)
@@ -110,7 +110,7 @@ due_cases Held None p false = refl
 due_cases Held (Some q) p true = refl
 due_cases Held (Some q) p false = refl
 
--- the parts of what is due make the turn
+-- the parts of what is due are the turn's events
 pub due_of-turn : (frames : ℕ) (f : Fate) (held : Option Place) (p : Place) (counts : Counts) (due : Due) (ends : Bool)
     → ends ≡ ends_stream frames p → due.place ≡ p → due.copies ≡ copies f held → due.behind ≡ behind f held p ends → tick_due frames p ≡ due_tick due
     → due_events counts due ≡ turn frames f held (held_after f held p) counts p
@@ -120,7 +120,7 @@ due_of-turn frames f held p counts due ends is_e is_p is_c is_b tick =
     rw (is_p, is_c, is_b, is_e) (due_cases f held p (ends_stream frames p)) in
     due_events-parts counts due (sent f held p ++ cond (ends_stream frames p) (option_to_list (held_after f held p)) []) (tick_due frames p) places (sym tick)
 
--- ---- what is left
+-- ---- the events that remain
 
 left_of-due : (s : State) (due : List Given) → due_events s.counts s.due ≡ due
     → left_of s ≡ due ++ cond s.ended [] (turns_left s.frames s.loss s.generator s.held s.counts (packets_from s.frames s.next))
@@ -136,7 +136,7 @@ left_of-packet s due p places tick =
     let later = due_events-parts s.counts due (due_places due) (due_tick s.due) refl tick in
     left_of-due s _ now ∙ ap (λ (xs : List Given). sent_event s.counts p ∷ xs) (sym (left_of-due (record s { due = due }) _ later))
 
--- if the same packets and the same tick are due, the same is left
+-- if the same packets and the same tick are due, the same events remain
 pub left_of-same : (s : State) (due : Due) → due_places s.due ≡ due_places due → due_tick due ≡ due_tick s.due → left_of (record s { due = due }) ≡ left_of s
 left_of-same s due places tick =
     let now = due_events-parts s.counts s.due (due_places due) (due_tick s.due) places refl in
@@ -164,7 +164,7 @@ turns_left-nil : (frames loss : ℕ) (g : Lcg) (held : Option Place) (counts : C
 unfolding turns_left
 turns_left-nil frames loss g held counts = refl
 
--- behind all packets comes the last tick, and then nothing
+-- after all packets comes the last tick, and then nothing
 pub left_of-last : (s : State) → s.ended ≡ false → due_places s.due ≡ [] → due_tick s.due ≡ None → s.next.frame ≡ s.frames → s.next.part ≡ 0
     → left_of s ≡ tick_event s.counts (last_moment s.frames) ∷ left_of (record s { ended = true })
 left_of-last s ended places tick all_made first =
@@ -174,7 +174,7 @@ left_of-last s ended places tick all_made first =
     ∙ turns_left-nil s.frames s.loss s.generator s.held s.counts
     ∙ ap (λ (xs : List Given). tick_event s.counts (last_moment s.frames) ∷ xs) (sym none)
 
--- the turn of a packet moves from what is to be made to what is due
+-- the turn of a packet that is to be made becomes due
 pub left_of-made : (s : State) (g : Lcg) (next : Place) (held : Option Place) (due : Due) (counts : Counts) (f : Fate)
     → s.ended ≡ false → is_idle s.due ≡ true → s.next.frame < s.frames → s.next.part < packet_count s.next.frame
     → f ≡ fate_of s.loss (word_of s.generator) → g ≡ after_word s.generator → next ≡ place_after s.next → held ≡ held_after f s.held s.next
@@ -213,21 +213,21 @@ ended_cases : (b : Bool) (due xs : List Given) → (xs ≡ [] → ⊥) → due +
 ended_cases true due xs some e = refl
 ended_cases false due xs some e = absurd (some (append-empty_second due xs e))
 
--- as long as the last tick wasn't returned, something is left
+-- as long as the last tick wasn't returned, an event remains
 pub ended_of-nothing_left : (s : State) → left_of s ≡ [] → s.ended ≡ true
 ended_of-nothing_left s e =
     let xs = turns_left s.frames s.loss s.generator s.held s.counts (packets_from s.frames s.next) in
     ended_cases s.ended (due_events s.counts s.due) xs (turns_left-some s.frames s.loss s.generator s.held s.counts (packets_from s.frames s.next))
     (sym (left_of-due s (due_events s.counts s.due) refl) ∙ e)
 
--- ---- what always holds
+-- ---- facts that always hold
 
 count_cases : (a b : Bool) → (0 < cond a 2 (cond b 3 1)) × (cond a 2 (cond b 3 1) ≤ 3)
 count_cases true b = (omega arith, omega arith)
 count_cases false true = (omega arith, omega arith)
 count_cases false false = (omega arith, omega arith)
 
--- the packet behind a packet of a stream, or the place behind the last
+-- the packet after a packet of a stream, or the place after the last packet
 record IsBehind (frames : ℕ) (p q : Place) : Type 0 where
   frame : q.frame ≤ frames
   part : q.part < packet_count q.frame
@@ -319,7 +319,7 @@ gives-same_due s due new event out places tick h =
     gives-same_left (making_of s) (making_of mid) new event out out left
     (λ (e : left_of s ≡ []). ap (λ (xs : List Given). (let m : Making = record { left = xs; counts = s.counts } in m)) (sym left)) h
 
--- what is left is left, however many packets are made to give it
+-- the remaining events stay the same, however many packets are made to return the next one
 pub gives-made : (s mid : State) (new : Making) (event : Event) (out out' : List ℕ)
     → left_of mid ≡ left_of s → (s.ended ≡ true → mid ≡ s) → Gives (making_of mid) new event out out' → Gives (making_of s) new event out out'
 gives-made s mid new event out out' left same h =

@@ -1,4 +1,4 @@
--- What a new maker has yet to return is the stream: at each turn the state stands for the packets that were made before.
+-- The events that a new maker has yet to return are the stream: at each turn the state represents the packets that were made before.
 use Rattle.std.proofs.Common.{◌≡◌, ℕ, zero, suc, ◌+◌, ◌-◌, Bool, false, cond, List, [], ◌∷◌, ◌++◌, length, filter, refl, sym, ap, ◌∙◌, arith, add-one, Option, Some, None}
 use Rattle.std.proofs.Math.Nat.{add_comm}
 use Rattle.std.proofs.lemmas.List.Sums.{sum_by-cons}
@@ -17,7 +17,7 @@ use Rattle.stream_maker.specs.Turn.{Given, turn}
 use Rattle.stream_maker.specs.Stream.{Stream, fate, held_back, waiting, swapped_count, counts_of, turns, events}
 use Rattle.stream_maker.specs.Left.{held_after, counts_after, turns_left, packets_from, left_of, due_events}
 
--- one more word is one step behind the others
+-- one more word is one step after the others
 next_state-state_after : (w m i n s : ℕ) → next_state w m i (state_after w m i n s) ≡ state_after w m i n (next_state w m i s)
 unfolding state_after
 next_state-state_after w m i zero s = refl
@@ -30,7 +30,7 @@ after_word-generator_at start n =
     ap (λ (state : ℕ). (let h : Lcg = record { state = state; increment = g.increment } in h))
     (next_state-state_after 64 multiplier_64 g.increment n g.state)
 
--- a packet that is to be held back is, where none is
+-- a packet that is to be held back is held back if no other packet is
 held_one : (o : Option Place) (p : Place) → held_after Held o p ≡ cond (is_none o) (Some p) None
 unfolding held_after
 held_one None p = refl
@@ -47,7 +47,7 @@ held_back-more s p before kept f e same is_kept =
     ap (λ (b : Bool). cond (not b) (p ∷ rest) rest) lost ∙ ap (λ (xs : List Place). p ∷ xs) same in
     ap (held_back s) list ∙ ap (λ (v : Fate). cond (is_to_be_held v && is_none (held_back s kept)) (Some p) None) e
 
--- the packet that waits behind a turn
+-- the packet that is held back after a turn
 held_after-waiting : (s : Stream) (p : Place) (before : List Place) (f : Fate) → fate s p ≡ f
     → held_after f (waiting s before) p ≡ waiting s (p ∷ before)
 unfolding held_after waiting held_back

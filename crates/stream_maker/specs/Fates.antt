@@ -1,5 +1,5 @@
--- What the network does to each packet: one word of 32 bits is drawn for it (own rule), by the generator PCG XSH RR 64/32 (O'Neill, 'PCG: a
--- family of simple fast space-efficient statistically good algorithms for random number generation') on stream 0.
+-- What the network does to each packet (own rule). For each packet one word of 32 bits is drawn, by the generator PCG XSH RR 64/32
+-- (O'Neill, 'PCG: a family of simple fast space-efficient statistically good algorithms for random number generation') on stream 0.
 use Rattle.std.specs.Prelude.{ℕ, ◌/◌, ◌%◌, Bool, true, false, if◌then◌else◌, nat_lt}
 use Rattle.rand_pcg.specs.Lcg.{Lcg, advance, started, increment_of}
 use Rattle.rand_pcg.specs.Pcg.{multiplier_64, pcg32}
@@ -14,7 +14,7 @@ fate_of loss word =
     else if nat_lt (word / 10000 % 100) loss then Held
     else Once
 
--- the generator for a seed
+-- the generator of this seed
 abbrev pub generator_of : ℕ → Lcg
 generator_of start = started 64 multiplier_64 start (increment_of 64 0)
 
@@ -25,11 +25,11 @@ word_of generator = (pcg32 generator).0
 unfoldable pub after_word : Lcg → Lcg
 after_word generator = (pcg32 generator).1
 
--- the generator for a seed after this many words
+-- the generator of this seed after `count` words
 unfoldable pub generator_at : ℕ → ℕ → Lcg
 generator_at start count = advance 64 multiplier_64 count (generator_of start)
 
--- the word with this many before it
+-- the word that follows `count` words
 abbrev pub word_at : ℕ → ℕ → ℕ
 word_at start count = word_of (generator_at start count)
 

@@ -1,4 +1,4 @@
--- What clauses see of a maker, and how one event changes it.
+-- The parts of a maker that clauses see, and the effect of one event on them.
 use Rattle.std.specs.Prelude.{◌≡◌, ℕ, List, [], ◌∷◌, Option, Some, None}
 use Rattle.stream_maker.specs.declared.counts.Counts.{Counts}
 use Rattle.stream_maker.specs.declared.event.Event.{Event}
@@ -7,17 +7,17 @@ use Rattle.stream_maker.specs.declared.place.Place.{Place}
 use Rattle.stream_maker.specs.Bytes.{packet_bytes}
 use Rattle.stream_maker.specs.Turn.{Given}
 
--- the events that are still to come, and what was made so far
+-- the events that are still to come, and the counts of what was made so far
 pub record Making : Type 0 where
   pub left : List Given
   pub counts : Counts
 
--- a packet fills the buffer, and nothing else changes it
+-- a packet fills the buffer; any other event leaves it unchanged
 abbrev pub filled : Option Place → List ℕ → List ℕ
 filled None old = old
 filled (Some p) old = packet_bytes p
 
--- The first event that is left is returned, with its counts, and the others are left. If none is left, it is the end, and nothing changes.
+-- The first remaining event is returned, with its counts, and the others remain. If none remains, the end is returned, and nothing changes.
 abbrev pub GivesNext : List Given → Making → Making → Event → List ℕ → List ℕ → Type 0
 GivesNext [] old new event out_old out_new = (event ≡ End) × (new ≡ old) × (out_new ≡ out_old)
 GivesNext (g ∷ left) old new event out_old out_new =

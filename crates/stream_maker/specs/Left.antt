@@ -1,5 +1,5 @@
--- What a maker's state stands for: the events that it has yet to return. These definitions follow the state, and are in no public clause; it
--- is proved that a new maker has yet to return the events of the stream.
+-- What a maker's state represents: the events that it has yet to return. These definitions follow the state,
+-- and no public clause cites them. It is proved that a new maker has yet to return the events of the stream.
 use Rattle.std.specs.Prelude.{◌≡◌, ◌≤◌, ◌<◌, ℕ, ◌+◌, ◌-◌, ◌*◌, ◌==◌, ◌&&◌, Bool, true, if◌then◌else◌, List, [], ◌∷◌, ◌++◌, map, drop, replicate, not, Option, Some, None, is_some, is_none}
 use Rattle.std.specs.Option.{option_to_list}
 use Rattle.rand_pcg.specs.Lcg.{Lcg}
@@ -25,14 +25,14 @@ held_after Once held p = None
 held_after Held None p = Some p
 held_after Held (Some q) p = None
 
--- how often a packet of this fate is sent at its own turn
+-- the number of times that a packet of this fate is sent in its own turn
 abbrev pub copies : Fate → Option Place → ℕ
 copies Lost held = 0
 copies Twice held = 2
 copies Once held = 1
 copies Held held = bit (is_some held)
 
--- what is sent behind it: the packet that was held back before, or at the end of the stream the one that is held back then
+-- The packet that is sent after it: the packet that was held back before. At the end of the stream it may be the packet that is held back then.
 unfoldable pub behind : Fate → Option Place → Place → Bool → Option Place
 behind Lost held p ends = if ends then held_after Lost held p else None
 behind Twice held p ends = held
@@ -69,7 +69,7 @@ is_idle due = due.copies == 0 && is_none due.behind && not due.ticks
 unfoldable pub due_events : Counts → Due → List Given
 due_events counts due = map (sent_event counts) (due_places due) ++ map (tick_event counts) (option_to_list (due_tick due))
 
--- the packets from this one on, of a stream of this many frames
+-- the packets from this one on, of a stream of `frames` frames
 unfoldable pub packets_from : ℕ → Place → List Place
 packets_from frames p = placed p.sequence (drop p.part (parts_from p.frame (frames - p.frame)))
 
@@ -89,11 +89,11 @@ left_of s =
 abbrev pub making_of : State → Making
 making_of s = record { left = left_of s; counts = s.counts }
 
--- a bound on how many packets are still to be made
+-- a bound on the number of packets that are still to be made
 abbrev pub packets_bound : State → ℕ
 packets_bound s = 3 * (s.frames - s.next.frame) - s.next.part
 
--- what always holds of a state, so that its numbers fit and its next packet is one
+-- Facts that always hold for a state. They imply that its numbers fit, and that its next packet exists.
 pub record IsSound (s : State) : Type 0 where
   pub some_frames : 0 < s.frames
   pub few_frames : s.frames ≤ 1000000

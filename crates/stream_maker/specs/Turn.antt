@@ -10,14 +10,14 @@ use Rattle.stream_maker.specs.declared.fate.Fate.TheVariants.{Lost, Twice, Held,
 use Rattle.stream_maker.specs.Packets.{moment_of}
 use Rattle.stream_maker.specs.Order.{ends_stream, tick_due}
 
--- an event, the packet that it sends, and what was made by then
+-- an event, the packet that it sends, and the counts of what was made by then
 pub record Given : Type 0 where
   pub event : Event
   pub place : Option Place
   pub counts : Counts
 
--- A packet is sent once or twice, and directly behind it the one that waits. A lost packet sends nothing, and neither does one
--- that is held back, which happens only if none waits.
+-- A packet is sent once or twice, and directly after it the packet that is held back. A lost packet
+-- sends nothing. Nor does a packet that is held back; this happens only if no other packet is.
 abbrev pub sent : Fate → Option Place → Place → List Place
 sent Lost waiting p = []
 sent Twice waiting p = p ∷ p ∷ option_to_list waiting
@@ -32,7 +32,7 @@ sent_event counts p = record { event = Packet (moment_of p.frame); place = Some 
 abbrev pub tick_event : Counts → ℕ → Given
 tick_event counts moment = record { event = Tick moment; place = None; counts = counts }
 
--- what p's turn sends; at the end of the stream the packet that still waits then; the tick of a unit that ends
+-- the events of p's turn; at the end of the stream also the packet that is still held back; then the tick of a unit that ends
 unfoldable pub turn : ℕ → Fate → Option Place → Option Place → Counts → Place → List Given
 turn frames fate waiting waits_then counts p =
     map (sent_event counts) (sent fate waiting p ++ (if ends_stream frames p then option_to_list waits_then else []))

@@ -1,4 +1,4 @@
-// What was made so far.
+// Counts of the packets and frames made so far.
 
 ghost use Rattle.std.specs.Prelude.{◌≡◌, ◌≤◌, ◌<◌, ◌^◌};
 ghost use Rattle.stream_maker.specs.Left.{counts_after};
@@ -6,18 +6,18 @@ ghost use Rattle.stream_maker.specs.Left.{counts_after};
 use crate::fate::Fate;
 use crate::place::Place;
 
-/// Counts of what was made so far of a stream. A packet is made when its turn comes, whether it is lost or not.
+/// Counts of the part of a stream that was made so far. A packet counts as made when its turn comes, whether it is lost or not.
 #[derive(Clone, Copy, Debug, PartialEq, Eq)]
 pub struct Counts {
-    /// Frames of which a packet was made.
+    /// The frames of which at least one packet was made.
     pub frames: u32,
-    /// Packets that were made.
+    /// The packets that were made.
     pub packets: u32,
-    /// Packets that aren't sent.
+    /// The packets that aren't sent.
     pub lost: u32,
-    /// Packets that are sent twice.
+    /// The packets that are sent twice.
     pub repeated: u32,
-    /// Packets that are held back until the next one that isn't lost was sent, or the stream ends.
+    /// The packets that are held back until the next packet that isn't lost was sent, or until the stream ends.
     pub swapped: u32,
 }
 
@@ -30,7 +30,7 @@ impl Counts {
         swapped: 0,
     };
 
-    // Counts one more packet; `held` is the packet that is held back when it comes.
+    // Counts one more packet; `held` is the packet that was held back before it.
     #[tactic(auto, unfolding(crate::specs::Left::counts_after))]
     pub(crate) fn add(&mut self, fate: Fate, held: Option<Place>, place: Place)
         requires frames { self.old.frames < 2 ^ 31 }

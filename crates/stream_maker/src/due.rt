@@ -7,12 +7,12 @@ ghost use Rattle.stream_maker.specs.Left.{behind, copies, held_after, due_places
 use crate::fate::Fate;
 use crate::place::Place;
 
-/// What is still to be sent in a turn: the packet, another packet behind it, and a tick behind both.
+/// What is still to be sent in a turn: the packet, then another packet, then a tick.
 #[derive(Clone, Copy, Debug)]
 pub(crate) struct Due {
     /// The packet whose turn it is.
     pub(crate) place: Place,
-    /// How often it is still to be sent.
+    /// The number of times that it is still to be sent.
     pub(crate) copies: u8,
     /// The packet that is sent after it.
     pub(crate) behind: Option<Place>,
@@ -23,15 +23,15 @@ pub(crate) struct Due {
 /// What a packet's turn sends, and which packet is held back after the turn.
 #[derive(Clone, Copy, Debug)]
 pub(crate) struct Turn {
-    /// How often the packet is sent.
+    /// The number of times that the packet is sent.
     pub(crate) copies: u8,
-    /// The packet that is sent behind it: the one that was held back before. At the end of the stream it may also be the packet that would
-    /// otherwise stay held back.
+    /// The packet that is sent after it: the packet that was held back before. At the
+    /// end of the stream it may also be the packet that would otherwise stay held back.
     pub(crate) behind: Option<Place>,
     pub(crate) held: Option<Place>,
 }
 
-// The turn of a packet with this fate; `ends_stream` says whether it is the last packet.
+// Returns the turn of a packet with this fate; `ends_stream` says whether it is the last packet.
 #[tactic(auto, unfolding(crate::specs::Left::behind, crate::specs::Left::held_after))]
 pub(crate) fn turn_of(fate: Fate, held: Option<Place>, place: Place, ends_stream: bool) -> Turn
     ensures copies { result.copies ≡ copies fate held }
@@ -69,7 +69,7 @@ impl Due {
         self.copies == 0 && self.behind.is_none() && !self.ticks
     }
 
-    // The next packet, if one is due.
+    // Returns the next packet that is due, if there is one.
     pub(crate) fn take_packet(&mut self) -> Option<Place>
         ensures places { due_places self.old ≡ option_to_list result ++ due_places self.new }
         ensures empty { IfNone result (due_places self.new ≡ []) }

@@ -6,7 +6,7 @@ ghost use Rattle.stream_maker.specs.Fates.{fate_of, word_of, after_word};
 use rand_core::utils::NextWord;
 use rand_pcg::Lcg64Xsh32;
 
-/// What happens to a packet, by its draw.
+/// What happens to a packet, according to its word from the generator.
 #[derive(Clone, Copy, Debug, PartialEq, Eq)]
 pub(crate) enum Fate {
     Lost,
@@ -16,7 +16,7 @@ pub(crate) enum Fate {
     Once,
 }
 
-// The next word of the generator.
+// Returns the next word of the generator.
 #[tactic(auto, unfolding(crate::specs::Fates::word_of, crate::specs::Fates::after_word))]
 pub(crate) fn draw(generator: &mut Lcg64Xsh32) -> u32
     ensures word { result ≡ word_of generator.old }
@@ -25,7 +25,7 @@ pub(crate) fn draw(generator: &mut Lcg64Xsh32) -> u32
     generator.next_word()
 }
 
-// Three draws from 0 to 99, the lowest pairs of the word's decimal digits, are for `Lost`, `Twice` and `Held`; the first below `loss` decides.
+// The three lowest pairs of the word's decimal digits are draws from 0 to 99 for `Lost`, `Twice` and `Held`. The first draw below `loss` decides.
 #[tactic(auto, unfolding(crate::specs::Fates::fate_of))]
 pub(crate) fn fate_of(loss: u8, word: u32) -> Fate
     ensures { result ≡ fate_of loss word }

@@ -32,9 +32,9 @@ impl Model for Maker {
 }
 
 impl Maker {
-    /// The stream of `frames` frames for the seed `start`. About `loss` percent of its packets are lost. Of the others, about `loss` percent
-    /// are sent twice. Of the rest, about `loss` percent are held back and sent after the next packet, unless a packet is held
-    /// back already.
+    /// Returns the stream of `frames` frames for the seed `start`. About `loss` percent of its packets
+    /// are lost. Of the others, about `loss` percent are sent twice. Of the rest, about `loss` percent
+    /// are held back and sent after the next packet, unless another packet is already held back.
     pub fn new(frames: u32, start: u64, loss: u8) -> Maker
         requires some_frames { 1 ≤ frames }
         requires few_frames { frames ≤ 1000000 }
@@ -56,7 +56,7 @@ impl Maker {
         }
     }
 
-    /// Returns the next event. For a packet, replaces the contents of `out` with its bytes; a tick and the end leave `out` unchanged.
+    /// Returns the next event. For a packet, replaces the contents of `out` with the packet's bytes. A tick and the end leave `out` unchanged.
     pub fn next_event(&mut self, out: &mut PacketBuf) -> Event
         ensures { Gives self.old self.new result out.old out.new }
     {
@@ -64,7 +64,7 @@ impl Maker {
         self.state.give(out)
     }
 
-    /// What was made so far: the packets up to the one to whose turn the last event belongs.
+    /// Returns the counts of the packets made so far, up to the packet in whose turn the last event came.
     pub fn counts(&self) -> Counts
         ensures { result ≡ self.now.counts }
     {

@@ -16,10 +16,10 @@ const PAYLOAD_TYPE: u8 = 96;
 
 const SSRC_BYTE: u8 = 0x11;
 
-// The ticks of the RTP clock from one unit to the next.
+// The number of RTP clock ticks from one unit to the next.
 const UNIT_TICKS: u32 = 3000;
 
-// The bytes behind the frame number: the flag of a structure, the structure, and a byte of padding.
+// The bytes after the frame number: the flag of a structure, the structure, and a byte of padding.
 const STRUCTURE: [u8; 23] = [
     0x80, 0x03, 0x18, 0x7F, 0xAF, 0xAC, 0x4A, 0x0A, 0x04, 0x04, 0xD1, 0x41, 0x09, 0xA1, 0x15, 0x80,
     0x08, 0x64, 0x22, 0x22, 0x26, 0x40, 0x00,
@@ -54,7 +54,7 @@ fn is_marked(place: Place) -> bool
     is_upper(place.frame) && place.ends_frame()
 }
 
-// The RTP header (RFC 3550, section 5.1).
+// Returns the RTP header (RFC 3550, section 5.1).
 fn header(place: Place) -> [u8; 12]
     ensures { result ≡ header place }
 {
@@ -78,7 +78,7 @@ fn header(place: Place) -> [u8; 12]
     ]
 }
 
-// The template of a frame in the stream's structure.
+// Returns the template of a frame in the stream's structure.
 fn template_of(frame: u32) -> u8
     ensures value { result ≡ template_of frame }
     ensures bound { result ≤ 5 }
@@ -91,7 +91,7 @@ fn template_of(frame: u32) -> u8
     }
 }
 
-// The header extension (RFC 8285) with the dependency descriptor under id 4.
+// Writes the header extension (RFC 8285), which has the dependency descriptor under id 4.
 fn write_extension(place: Place, out: &mut PacketBuf)
     requires { length out.old ≤ 12 }
     ensures bytes { out.new ≡ out.old ++ extension place }
@@ -134,14 +134,14 @@ fn write_short_descriptor(place: Place, out: &mut PacketBuf)
     ]);
 }
 
-// The first byte of an element: the header of an OBU if the element begins a frame, else 0.
+// Returns the first byte of an element: an OBU header if the element begins a frame, else 0.
 fn element_byte(starts: bool) -> u8
     ensures { result ≡ (if starts then 0x30 else 0) }
 {
     if starts { 0x30 } else { 0 }
 }
 
-// The AV1 payload: the aggregation header and one element.
+// Writes the AV1 payload: the aggregation header and one element.
 fn write_payload(place: Place, out: &mut PacketBuf)
     requires { length out.old ≤ 48 }
     ensures { out.new ≡ out.old ++ payload place }

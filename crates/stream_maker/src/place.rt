@@ -12,11 +12,11 @@ const KEY_UNITS: u32 = 50;
 /// One packet of a frame.
 #[derive(Clone, Copy, Debug, PartialEq, Eq)]
 pub(crate) struct Place {
-    /// The number of its frame, from 0.
+    /// The number of the packet's frame, counted from 0.
     pub(crate) frame: u32,
-    /// Which packet of its frame it is, from 0.
+    /// The packet's index in its frame, counted from 0.
     pub(crate) part: u32,
-    /// Which packet of the stream it is, from 0.
+    /// The packet's index in the stream, counted from 0.
     pub(crate) sequence: u32,
 }
 
@@ -32,7 +32,7 @@ pub(crate) fn is_key_unit(frame: u32) -> bool
     frame / 2 % KEY_UNITS == 0
 }
 
-// How many packets a frame has.
+// Returns the number of packets of a frame.
 pub(crate) fn packet_count(frame: u32) -> u32
     ensures { result ≡ packet_count frame }
 {
@@ -45,7 +45,7 @@ pub(crate) fn packet_count(frame: u32) -> u32
     }
 }
 
-// When the packets of a frame's unit are sent, in milliseconds.
+// Returns the moment at which the packets of a frame's unit are sent, in milliseconds.
 pub(crate) fn moment_of(frame: u32) -> u64
     ensures { result ≡ moment_of frame }
 {
@@ -65,7 +65,7 @@ impl Place {
         self.part == packet_count(self.frame) - 1
     }
 
-    // The packet after this one.
+    // Returns the packet after this one.
     pub(crate) fn following(self) -> Place
         requires frame { self.frame < 2 ^ 31 }
         requires part { self.part < packet_count self.frame }
@@ -88,7 +88,7 @@ impl Place {
         }
     }
 
-    // Whether it is the last packet of a stream of `frames` frames.
+    // Returns whether this is the last packet of a stream of `frames` frames.
     pub(crate) fn ends_stream(self, frames: u32) -> bool
         requires { 0 < frames }
         ensures { result ≡ ends_stream frames self }
@@ -96,7 +96,7 @@ impl Place {
         self.frame == frames - 1 && self.ends_frame()
     }
 
-    // Whether it is the last packet of its unit, so that a tick comes after it.
+    // Returns whether this is the last packet of its unit, so that a tick follows it.
     pub(crate) fn ends_unit(self, frames: u32) -> bool
         requires { 0 < frames }
         ensures { tick_due frames self ≡ (if result then Some (moment_of self.frame) else None) }

@@ -13,7 +13,7 @@ use crate::place::{Place, moment_of};
 use rand_pcg::Lcg64Xsh32;
 use sfu_base::PacketBuf;
 
-// How long after the last unit the last tick comes, in milliseconds.
+// The time from the last unit to the last tick, in milliseconds.
 const LAST_WAIT: u64 = 1000;
 
 /// The parts of a maker.
@@ -22,7 +22,7 @@ pub(crate) struct State {
     pub(crate) frames: u32,
     pub(crate) loss: u8,
     pub(crate) generator: Lcg64Xsh32,
-    /// The packet that is made next; once all are made, the first packet of the frame after the last frame.
+    /// The packet that is made next. Once all packets are made, it is the first packet of frame number `frames`, which isn't made.
     pub(crate) next: Place,
     /// The packet that is held back.
     pub(crate) held: Option<Place>,
@@ -33,7 +33,7 @@ pub(crate) struct State {
 }
 
 impl State {
-    // Makes the next packet: what is sent in its turn is due then.
+    // Makes the next packet. The packets that are sent in its turn become due.
     fn make_packet(&mut self)
         requires sound { IsSound self.old }
         requires nothing_due { is_idle self.old.due ≡ true }
@@ -57,7 +57,7 @@ impl State {
         self.next = place.following();
     }
 
-    // Makes packets until something is due, or all are made.
+    // Makes packets until something is due, or until all packets are made.
     pub(crate) fn make_packets(&mut self)
         requires sound { IsSound self.old }
         ensures sound { IsSound self.new }
@@ -70,7 +70,7 @@ impl State {
         }
     }
 
-    // Returns what is due, else the last tick, else the end.
+    // Returns what is due; if nothing is due, the last tick; after that tick, the end.
     pub(crate) fn give(&mut self, out: &mut PacketBuf) -> Event
         requires sound { IsSound self.old }
         requires ready { due_places self.old.due ≡ [] → due_tick self.old.due ≡ None → self.old.next.frame ≡ self.old.frames }
@@ -88,7 +88,7 @@ impl State {
         }
     }
 
-    // Returns the tick that is due, else the last tick, else the end.
+    // Returns the tick that is due; if none is due, the last tick; after that tick, the end.
     fn give_tick(&mut self) -> Event
         requires sound { IsSound self.old }
         requires no_packet { due_places self.old.due ≡ [] }

@@ -7,7 +7,7 @@ ghost use Rattle.stream_maker.specs.Summary.{counts_text, made_text};
 use crate::counts::Counts;
 use std::alloc::{AllocError, Global};
 
-/// Two lines of text that say what was made of a stream. `AllocError`: out of memory.
+/// Returns two lines of text that say what was made of a stream. Returns `AllocError` if memory runs out.
 pub fn made_text(alloc: Global, counts: Counts) -> Result<String, AllocError>
     ensures { IfOk result (λ text. string_bytes text ≡ made_text counts) }
 {
@@ -23,8 +23,8 @@ pub fn made_text(alloc: Global, counts: Counts) -> Result<String, AllocError>
     )
 }
 
-/// A line of text about the subscriber `number`: it got `frames` frames and `packets` packets, and has `complaints` complaints.
-/// `AllocError`: out of memory.
+/// Returns a line of text about the subscriber `number`: how many frames and packets it
+/// received, and how many complaints there are. Returns `AllocError` if memory runs out.
 pub fn counts_text(
     alloc: Global,
     number: u32,

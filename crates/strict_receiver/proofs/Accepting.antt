@@ -1,4 +1,4 @@
--- A packet of the source with the next number, and any other.
+-- A packet of the source with the next number, and any other packet.
 use Rattle.std.proofs.Common.{◌≡◌, ℕ, ◌+◌, ◌%◌, Bool, true, false, cond, ◌==◌, List, length, take, drop, replicate, Option, None, Result, Ok, Err, refl, sym, ap, subst, ◌∙◌}
 use Rattle.std.proofs.lemmas.List.{take_at}
 use Rattle.sfu_base.specs.declared.call.RtpFault.{RtpFault}

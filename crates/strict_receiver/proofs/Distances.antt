@@ -1,4 +1,4 @@
--- How far numbers lie below another.
+-- The distances of numbers below another number.
 use Rattle.std.proofs.Common.{◌≡◌, ℕ, ◌+◌, ◌-◌, ◌<◌, ◌≤◌, Bool, true, false, cond, ◌||◌, List, [], ◌∷◌, take, refl, ap, ap₂, ◌∙◌, arith}
 use Rattle.std.specs.Prelude.{◌==◌, filter, nat_le}
 use Rattle.std.specs.List.{AllByRecursion, list_all}
@@ -17,7 +17,7 @@ none_so_near (m ∷ ms) k n d all far =
     ap (λ (b : Bool). b || is_received ms n d) (ne_eqb (m + d) n (λ e. omega (arith, all.0)))
     ∙ none_so_near ms k n d all.1 far
 
--- the same number, by its distance below one further up
+-- the same number, by its distance below a higher number
 pub from_further_up : (numbers : List ℕ) (n ahead d : ℕ) → ahead ≤ d → is_received numbers (n + ahead) d ≡ is_received numbers n (d - ahead)
 from_further_up [] n ahead d le = refl
 from_further_up (m ∷ ms) n ahead d le = ap₂ (λ (a b : Bool). a || b) here (from_further_up ms n ahead d le)
@@ -27,14 +27,14 @@ from_further_up (m ∷ ms) n ahead d le = ap₂ (λ (a b : Bool). a || b) here (
         same_from_decides ((m + d) == (n + ahead)) ((m + (d - ahead)) == n) (Decides-eqb (m + d) (n + ahead))
         (Decides-like ((m + (d - ahead)) == n) (λ e. omega arith) (λ e. omega arith) (Decides-eqb (m + (d - ahead)) n))
 
--- what a window forgets is too far below
+-- the numbers that a window forgets are too far below
 pub held_in_reach : (x n d : ℕ) (numbers : List ℕ) → x ≤ n → d ≤ 4096 → is_received (held_of (x ∷ numbers)) n d ≡ is_received (x ∷ numbers) n d
 held_in_reach x n d numbers le near =
     ap (λ (b : Bool). ((x + d) == n) || b)
     (any-filter_same (λ k. (k + d) == n) (is_in_reach x) true
     (λ k is. let same : k + d ≡ n = eqb-true (k + d) n is in le-leb x (k + 4096) (omega arith)) numbers)
 
--- what is true of all is true of some of them
+-- a property of all numbers is a property of some of them
 pub all_filtered : (P : ℕ → Type 0) (test : ℕ → Bool) (numbers : List ℕ) → AllByRecursion P numbers → AllByRecursion P (filter test numbers)
 all_filtered P test [] all = tt
 all_filtered P test (m ∷ ms) all = go (test m) (all_filtered P test ms all.1)

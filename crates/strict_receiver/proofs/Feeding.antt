@@ -1,4 +1,4 @@
--- One packet more, whatever a receiver stands for.
+-- A receiver after one more packet, whatever it represents.
 use Rattle.std.proofs.Common.{◌≡◌, ℕ, true, Option, Some, None, Err, refl, sym, ap, subst}
 use Rattle.forwarding_model.specs.declared.complaint.Complaint.{Complaint}
 use Rattle.forwarding_model.specs.forwarding.Timeline.{Packet}

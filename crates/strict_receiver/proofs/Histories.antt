@@ -1,4 +1,4 @@
--- One packet more than a history.
+-- A history with one more packet.
 use Rattle.std.proofs.Common.{◌≡◌, ℕ, ◌+◌, min, Bool, true, false, cond, List, map, ◌++◌, ◌∷◌, [], Option, Some, None, Result, Ok, Err, refl, sym, ap, subst, ◌∙◌, arith}
 use Rattle.std.specs.Prelude.{if◌then◌else◌}
 use Rattle.std.proofs.lemmas.List.{map-append}
@@ -20,7 +20,7 @@ use Rattle.strict_receiver.specs.States.{Fed, HasStood, IsStageOf, IsStateOf, an
 
 -- ---- lists of packets
 
--- what an accepted packet counts
+-- the counts after an accepted packet
 abbrev pub content_count : Receiver TemplateStructure → ℕ
 content_count m = if is_content m then 1 else 0
 
@@ -66,7 +66,7 @@ module _ (format : Format TemplateStructure) where
 -- ---- lists of their bytes
 
 module _ (id : ℕ) (history : List (List ℕ)) (bytes : List ℕ) where
-  -- what a receiver that stands for the history becomes
+  -- the next state of a receiver that represents the history
   abbrev pub next_one : Receiver TemplateStructure
   next_one = receive (format_of id) (receive_all (format_of id) Waiting (map read_packet history)) (read_packet bytes)
 
@@ -85,9 +85,9 @@ module _ (id : ℕ) (history : List (List ℕ)) (bytes : List ℕ) where
   frames_one =
       ap (frames_accepted (format_of id) Waiting) all_but_one ∙ frames_more (format_of id) Waiting (map read_packet history) (read_packet bytes)
 
--- ---- what is stood for
+-- ---- what a receiver represents
 
--- what contracts see stands for what the parts do
+-- what contracts see represents the same receiver as the parts
 pub shown_as : (s : State) (m : Receiver TemplateStructure) → IsStateOf s m → IsReceiverOf (receiver_in s) m
 shown_as s m stands = go s.stage m stands
   where
@@ -102,7 +102,7 @@ shown_as s m stands = go s.stage m stands
     go (stage.Complaining c) (Receiving r) h = absurd h
     go (stage.Complaining c) (Complaining d) h = h
 
--- and the parts for what contracts see, where they stand for anything
+-- if the parts represent a receiver, it is the one that contracts see
 pub stands_as : (s : State) (m : Receiver TemplateStructure) → HasStood s → IsReceiverOf (receiver_in s) m → IsStateOf s m
 stands_as s m stood shown = go s.stage m stood.0 stood.1 shown
   where

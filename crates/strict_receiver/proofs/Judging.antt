@@ -125,14 +125,14 @@ module _ (before placed_kept received : Received) (header : FrameHeader) (result
   alike : ArePlacedAs placed_kept (placed received header)
   alike = subst (λ (r : Received). ArePlacedAs r (placed received header)) (sym number) (placed_alike before received header stands)
 
-  -- a frame whose references are all there
+  -- a frame whose references were all received
   pub judged_complete : (window : List ℕ) → (IsAboveAll placed_kept.newest placed_kept.numbers → window ≡ held_of (placed_kept.newest ∷ placed_kept.numbers))
       → Judges (record { newest = placed_kept.newest; numbers = window }) result (judge received header)
   judged_complete window inserted =
       judged_alike (record { newest = placed_kept.newest; numbers = window }) placed_kept received header result alike all failing
       (λ none. ap (λ (w : List ℕ). record { newest = placed_kept.newest; numbers = w }) (inserted alike.below))
 
-  -- a frame that lacks one
+  -- a frame that lacks a reference
   pub judged_lacking : (r : Bool) → is_some result ≡ not r → r ≡ false → Judges placed_kept result (judge received header)
   judged_lacking r some isnt =
       judged_alike placed_kept placed_kept received header result alike all failing

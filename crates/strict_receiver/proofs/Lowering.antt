@@ -1,4 +1,4 @@
--- Numbers that are lowered one by one lie as far below the newest as before.
+-- Numbers that are lowered one by one have the same distance below the newest as before.
 use Rattle.std.proofs.Common.{◌≡◌, inl, inr, ℕ, ◌+◌, ◌-◌, ◌%◌, ◌<◌, ◌≤◌, Bool, true, false, ◌&&◌, ◌||◌, List, [], ◌∷◌, sym, ap, ◌∙◌, arith}
 use Rattle.std.specs.Prelude.{nat_lt}
 use Rattle.std.specs.List.{AllByRecursion}
@@ -78,7 +78,7 @@ module _ (window lowered : List ℕ) (newest by number x : ℕ) (same : x + by �
 pub up_to : (lowered : List ℕ) (by number n : ℕ) → number ≤ n + by + 1 → AllByRecursion (λ m. m + by < number) lowered → AllByRecursion (λ m. m ≤ n) lowered
 up_to lowered by number n le below = all_weaker (λ m. m + by < number) (λ m. m ≤ n) (λ m lt. omega arith) lowered below
 
--- what is lowered so is kept as before
+-- numbers that are lowered in this way are kept as before
 pub lowered_kept : (old new received : Received) (by : ℕ) → new.newest + by ≡ old.newest → by % 65536 ≡ 0 → AllByRecursion (λ m. m ≤ new.newest) new.numbers
     → ((d : ℕ) → d < 4096 → is_received new.numbers new.newest d ≡ is_received old.numbers old.newest d) → AreKeptOf old received → AreKeptOf new received
 lowered_kept old new received by same whole below held stands = record {

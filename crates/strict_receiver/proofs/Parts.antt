@@ -1,4 +1,4 @@
--- A packet whose descriptor and payload read: whether it goes on with the frame, and what its end makes of it.
+-- A packet whose descriptor and payload can be read: whether it continues the frame, and what happens at the frame's end.
 use Rattle.std.proofs.Common.{◌≡◌, ℕ, Bool, true, false, cond, not, ◌&&◌, Option, Some, None, Ok, Err, refl, sym, ap, subst, ◌∙◌}
 use Rattle.std.specs.Option.{option_map}
 use Rattle.forwarding_model.specs.declared.complaint.Complaint.{Complaint}

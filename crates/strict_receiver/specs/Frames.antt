@@ -10,7 +10,7 @@ use Rattle.packet_format.specs.Formats.{said}
 use Rattle.strict_receiver.specs.declared.frame.FrameStart.{FrameStart}
 use Rattle.strict_receiver.specs.declared.frame.OpenFrame.{OpenFrame}
 
--- what a descriptor says that was read with this structure in force
+-- the contents of a descriptor that was read with this structure in force
 abbrev pub said_by : Option TemplateStructure → Descriptor → Said TemplateStructure
 said_by force d = said (content_of force d)
 
@@ -20,12 +20,12 @@ header_said start = record { number = start.number; key = start.key; references 
 abbrev pub frame_said : OpenFrame → ModelFrame
 frame_said frame = record { header = header_said frame.start; packets = frame.packets; carries = frame.carries }
 
--- a packet goes on with this frame
+-- a packet continues this frame
 abbrev pub follows : ModelFrame → Said TemplateStructure → Bool → Bool
 follows frame d continues =
     not d.start && (d.number == frame.header.number && (beq continues frame.carries && nat_lt frame.packets 512))
 
--- the frame with the packet, or none if the frame isn't whole
+-- the frame with the packet added, or none if the packet can't be added
 abbrev pub joined_as : Option ModelFrame → Said TemplateStructure → Joins → Option ModelFrame
 joined_as None d joins = if d.start && not joins.continues then Some (first_packet d joins) else None
 joined_as (Some frame) d joins = if follows frame d joins.continues then Some (next_packet frame joins) else None

@@ -1,4 +1,4 @@
--- What the fields of a receiver stand for, and what is always true of them.
+-- The value that the fields of a receiver represent, and what always holds for them.
 use Rattle.strict_receiver.specs.declared.receiver.Receiver.TheInside.{Inside}
 use Rattle.strict_receiver.specs.Receivers.{Seen}
 use Rattle.strict_receiver.specs.States.{HasStood, receiver_in}

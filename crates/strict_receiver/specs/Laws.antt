@@ -1,4 +1,4 @@
--- What the complaints of receivers say about packets. Own statements. The definition's complaint is over packets; a receiver sees bytes.
+-- The relation between a receiver's complaint and the packets. Own statements. The definition's complaint is about packets; a receiver gets bytes.
 use Rattle.std.specs.Prelude.{◌≡◌, ◌<◌, ◌^◌, ◌++◌, ℕ, Bool, List, map, None, Some}
 use Rattle.std.specs.List.{AllByRecursion}
 use Rattle.forwarding_model.specs.declared.complaint.Complaint.{Complaint}
@@ -11,15 +11,15 @@ use Rattle.strict_receiver.specs.Receivers.{Seen, StandsFor, complaint_over}
 
 -- ---- what was fed
 
--- a receiver returns the complaint of the packets that it stands for
+-- a receiver returns the complaint about the packets that it represents
 abbrev pub TellsItsComplaint : Type 0
 TellsItsComplaint = (now : Seen) (history : List (List ℕ)) → StandsFor now history → complaint_of now.receiver ≡ complaint_over now.id history
 
--- a complaint stays, whatever comes
+-- a complaint stays, whatever packets follow
 abbrev pub ComplaintStays : Type 0
 ComplaintStays = (id : ℕ) (history more : List (List ℕ)) (c : Complaint) → complaint_over id history ≡ Some c → complaint_over id (history ++ more) ≡ Some c
 
--- if there is none, there was none about any prefix
+-- if there is no complaint about some packets, there is none about any prefix of them
 abbrev pub FirstPartsAreAccepted : Type 0
 FirstPartsAreAccepted = (id : ℕ) (history more : List (List ℕ)) → complaint_over id (history ++ more) ≡ None → complaint_over id history ≡ None
 
@@ -34,7 +34,7 @@ abbrev pub ReadBytesAreSent : Type 0
 ReadBytesAreSent = (sequence ssrc : ℕ) (marker : Bool) (bytes : List ℕ) → first_fault bytes ≡ None → sequence < 2 ^ 16 → ssrc < 2 ^ 32
     → IsSent (readdressed sequence ssrc marker (packet_of bytes))
 
--- about the bytes of packets a receiver has the complaint that the definition has about the packets
+-- a receiver's complaint about the bytes of packets is the complaint of the definition about the packets
 abbrev pub JudgesSentPackets : Type 0
 JudgesSentPackets = (id : ℕ) (packets : List Packet) → AllByRecursion IsSent packets
     → complaint_over id (map bytes_of packets) ≡ complaint (format_of id) (map Some packets)

@@ -1,5 +1,5 @@
--- What a strict receiver stands for, and what it returns. Own rules. The definition is `forwarding_model`'s, over packets; here it is over
--- their bytes. Of the received numbers the code stores those that a frame can still refer to; it stores no packets.
+-- The packets that a strict receiver represents, and what it returns. Own rules. `forwarding_model` has the definition for packets; here it is
+-- for their bytes. Of the received numbers the code stores those that a frame can still refer to; it stores no packets.
 use Rattle.std.specs.Prelude.{◌≡◌, ◌-◌, ◌^◌, ℕ, List, map, min, Option, None, Some, Result, Ok, Err}
 use Rattle.forwarding_model.specs.declared.complaint.Complaint.{Complaint}
 use Rattle.forwarding_model.specs.Receiver.{Reception, Receiver, complaint, frames_accepted, packets_accepted, receive_all}
@@ -23,14 +23,14 @@ pub record Seen : Type 0 where
 abbrev pub complaint_over : ℕ → List (List ℕ) → Option Complaint
 complaint_over id history = complaint (format_of id) (map read_packet history)
 
--- how many of them it accepts, and how many frames
+-- how many of these packets it accepts, and how many frames
 abbrev pub packets_over : ℕ → List (List ℕ) → ℕ
 packets_over id history = packets_accepted (format_of id) Waiting (map read_packet history)
 
 abbrev pub frames_over : ℕ → List (List ℕ) → ℕ
 frames_over id history = frames_accepted (format_of id) Waiting (map read_packet history)
 
--- ---- what a receiver stands for
+-- ---- what a receiver represents
 
 pub record IsReceptionOf (kept r : Reception TemplateStructure) : Type 0 where
   pub ssrc : kept.ssrc ≡ r.ssrc
@@ -39,7 +39,7 @@ pub record IsReceptionOf (kept r : Reception TemplateStructure) : Type 0 where
   pub frame : kept.frame ≡ r.frame
   pub received : AreKeptOf kept.received r.received
 
--- the same except for received numbers that aren't stored
+-- the same receiver, except for received numbers that aren't stored
 abbrev pub IsReceiverOf : Receiver TemplateStructure → Receiver TemplateStructure → Type 0
 IsReceiverOf Waiting Waiting = Unit {0}
 IsReceiverOf Waiting (Receiving r) = ⊥

@@ -1,4 +1,4 @@
--- The code's parts in the terms of the definition of a strict receiver, step by step.
+-- The code's structs, in the terms of the definition of a strict receiver.
 use Rattle.std.specs.Prelude.{◌≡◌, ◌+◌, ◌%◌, ◌==◌, ℕ, Bool, true, false, if◌then◌else◌, Option, None, Some, Result, Ok, Err}
 use Rattle.std.specs.Option.{option_map}
 use Rattle.forwarding_model.specs.declared.complaint.Complaint.{Complaint}
@@ -34,7 +34,7 @@ receiver_by (stage.Complaining c) frame structure numbers = Complaining c
 abbrev pub receiver_in : State → Receiver TemplateStructure
 receiver_in s = receiver_by s.stage s.frame s.structure s.received
 
--- ---- what a state stands for
+-- ---- what a state represents
 
 abbrev pub IsStageOf : Stage → Option OpenFrame → Option TemplateStructure → Received → Receiver TemplateStructure → Type 0
 IsStageOf stage.Waiting frame structure numbers Waiting = (frame ≡ None) × (structure ≡ None) × AreKeptOf numbers nothing_received
@@ -50,13 +50,13 @@ IsStageOf (stage.Complaining c) frame structure numbers (Complaining d) = c ≡ 
 abbrev pub IsStateOf : State → Receiver TemplateStructure → Type 0
 IsStateOf s m = IsStageOf s.stage s.frame s.structure s.received m
 
--- the state stands for some receiver
+-- the state represents some receiver
 abbrev pub HasStood : State → Type 0
 HasStood s = (m : Receiver TemplateStructure) × IsStateOf s m
 
 -- ---- a packet
 
--- the result, and what the state stands for if there is no complaint
+-- the result of a step, and the receiver that the state represents if there is no complaint
 abbrev pub Answers : State → Result Unit Complaint → Receiver TemplateStructure → Type 0
 Answers s (Ok _) Waiting = ⊥
 Answers s (Ok _) (Receiving r) = IsStateOf s (Receiving r)
@@ -69,12 +69,12 @@ abbrev pub answer_of : Option Complaint → Result Unit Complaint
 answer_of None = Ok tt
 answer_of (Some c) = Err c
 
--- the result is the complaint, if there is one, and the state stands for what follows
+-- the result is the complaint, if there is one, and the state represents the next receiver
 pub record Fed (new : State) (result : Result Unit Complaint) (next : Receiver TemplateStructure) : Type 0 where
   pub answer : result ≡ answer_of (complaint_of next)
   pub stands : IsStateOf new next
 
--- the reception that a packet of this source with this number comes to
+-- the reception before a packet of this source with this number, or the complaint about them
 abbrev pub reception_for : Receiver TemplateStructure → ℕ → ℕ → Result (Reception TemplateStructure) Complaint
 reception_for Waiting ssrc sequence = Ok (new_reception ssrc)
 reception_for (Receiving r) ssrc sequence =
@@ -106,7 +106,7 @@ Joined frame true None = ⊥
 Joined frame false (Some f) = ⊥
 Joined frame false None = Unit {0}
 
--- what comes of a frame with its newest packet
+-- the outcome of a frame with its newest packet
 abbrev pub Finishes : State → Result Unit Complaint → Reception TemplateStructure → Receiver TemplateStructure → Type 0
 Finishes new (Ok _) r next =
     (received : Received) × AreKeptOf new.received received × (next ≡ Receiving (record r { frame = option_map frame_said new.frame; received = received }))

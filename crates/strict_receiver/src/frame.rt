@@ -1,9 +1,9 @@
-// What is kept of a frame that has begun.
+// The state that a receiver keeps of a frame that has begun.
 
 ghost use Rattle.std.specs.Prelude.{◌≡◌, ◌≤◌, true};
 ghost use Rattle.strict_receiver.specs.Near.{are_near};
 
-/// What a frame's first descriptor says to a receiver.
+/// The parts of a frame's first descriptor that a receiver uses.
 #[derive(Clone, Copy, Debug)]
 pub struct FrameStart {
     /// The frame number modulo 65,536.
@@ -12,7 +12,7 @@ pub struct FrameStart {
     pub key: bool,
     /// How many frames the frame refers to, at most 16.
     pub ref_count: u8,
-    /// How many frames back each referenced frame is, 1 to 4,096 (frame_fdiff). Only the first `ref_count` places count.
+    /// The distance in frame numbers back to each referenced frame, 1 to 4,096 (frame_fdiff). Only the first `ref_count` entries are used.
     pub refs: [u16; 16],
     ghost few: { ref_count ≤ 16 },
     ghost near: { are_near ref_count refs ≡ true },
@@ -24,6 +24,6 @@ pub struct OpenFrame {
     pub start: FrameStart,
     /// How many packets the frame has so far, at most 512.
     pub packets: u16,
-    /// Whether the last packet left an element open, which the next packet continues (RTP Payload Format For AV1, section 4.4: Y).
+    /// Y of the last packet: whether it left an element unfinished, which the next packet must continue (RTP Payload Format For AV1, section 4.4).
     pub carries: bool,
 }

@@ -1,4 +1,4 @@
-// How a frame begins, and which packets continue it.
+// Checks whether a packet begins a frame, and whether it continues one.
 
 ghost use Rattle.std.specs.Prelude.{◌≡◌, ◌<◌, ◌&&◌, Bool, Option, not, true};
 ghost use Rattle.forwarding_model.specs.Receiver.{first_packet, header_of};
@@ -10,17 +10,17 @@ use crate::frame::{FrameStart, OpenFrame};
 use dd_descriptor::Descriptor;
 use packet_format::begins_epoch;
 
-/// The most packets of a frame.
+/// The largest number of packets of a frame.
 const MOST_PACKETS: u16 = 512;
 
-/// Whether a packet with this descriptor begins a frame, if none is open: it has the start bit, and continues no element.
+/// Whether a packet with this descriptor can begin a frame. Such a packet has the start bit, and continues no element.
 pub fn begins(first: &Descriptor, continues: bool) -> bool
     ensures { result ≡ (first.now.start && not continues) }
 {
     first.start && !continues
 }
 
-/// The open frame after its first packet, which has this descriptor.
+/// The open frame after its first packet, whose descriptor is `first`.
 pub fn begun(first: &Descriptor, carries: bool) -> OpenFrame
     requires { HasDistances first.now }
     ensures { (force : Option TemplateStructure) (continues : Bool)
@@ -33,7 +33,7 @@ pub fn begun(first: &Descriptor, carries: bool) -> OpenFrame
     }
 }
 
-// What a frame's first descriptor says to a receiver.
+// The parts of a frame's first descriptor that a receiver uses.
 fn start_of(first: &Descriptor) -> FrameStart
     requires { HasDistances first.now }
     ensures { (force : Option TemplateStructure) → header_said result ≡ header_of (said_by force first.now) }
@@ -46,8 +46,8 @@ fn start_of(first: &Descriptor) -> FrameStart
     }
 }
 
-/// Whether a packet with this descriptor continues the frame: it has no start bit, has the frame's number, continues an element exactly if
-/// one was left open, and is at most the 512th.
+/// Whether a packet with this descriptor continues the frame. Such a packet has no start bit, has the frame's number, and continues an element
+/// exactly if one was left unfinished. A frame has at most 512 packets.
 pub fn goes_on(frame: &OpenFrame, descriptor: &Descriptor, continues: bool) -> bool
     ensures follows { (force : Option TemplateStructure) → result ≡ follows (frame_said frame.now) (said_by force descriptor.now) continues }
     ensures few { result ≡ true → frame.now.packets < 512 }

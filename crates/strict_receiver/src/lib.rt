@@ -1,6 +1,6 @@
-//! A strict receiver: it sees only the packets of one layered track and the header extension id of their dependency descriptors, and
-//! returns the first complaint about the packets. What a forwarder sends is right if the receiver has no complaint. Only the constructor
-//! allocates memory.
+//! A strict receiver checks the packets of one layered track, and returns its first complaint about them. The receiver knows only the packets
+//! and the header extension id of their dependency descriptors. A forwarder's packets are right if the receiver has no complaint. Only the
+//! constructor allocates memory.
 #![tactic(auto)]
 
 mod frame;

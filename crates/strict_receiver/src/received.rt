@@ -13,8 +13,8 @@ use ref_window::RefWindow;
 use std::marker::Model;
 use wrap_number::above;
 
-/// The newest frame's number, and which of the numbers up to it were received. Only the newest number modulo 65,536 and the distances below
-/// it matter, so all numbers are lowered by the same multiple of 65,536 before they get too high. Clauses see a `Received` of
+/// The newest frame's number, and the received numbers up to it. Only two things matter: the newest number modulo 65,536, and how far below it
+/// the other numbers are. So all numbers are lowered by the same multiple of 65,536 before they get too high. Contracts see a `Received` of
 /// `forwarding_model`.
 #[derive(Debug, Drop)]
 pub struct ReceivedFrames {
@@ -33,13 +33,13 @@ impl Model for ReceivedFrames {
     ghost invariant = { λ frames. frames.newest < 2 ^ 24 + 65536 };
 }
 
-/// From this number on, all numbers are lowered.
+/// If the newest number is this high or higher, all numbers are lowered.
 const TOO_HIGH: u64 = 1 << 24;
 
-/// How far above the newest a frame number may be, modulo 65,536; a number further ahead counts as behind.
+/// A frame number may be at most this far above the newest, modulo 65,536. A number that is farther above counts as below the newest.
 const FARTHEST_AHEAD: u64 = 32767;
 
-/// The greatest distance at which a frame may refer to another (frame_fdiff).
+/// The greatest distance, in frame numbers, from a frame to a frame that it refers to (frame_fdiff).
 const SPAN: u64 = 4096;
 
 impl ReceivedFrames {
@@ -53,8 +53,8 @@ impl ReceivedFrames {
         }
     }
 
-    /// Judges a whole frame by its first descriptor. If all frames that it refers to were received, counts the frame itself as received, and
-    /// returns `None`. Else returns the distance of the first reference to a frame that wasn't received.
+    /// Judges a complete frame by its first descriptor. If all frames that it refers to were received, counts the frame itself as received, and
+    /// returns `None`. Otherwise returns the distance of the first reference to a frame that wasn't received.
     pub fn judge(&mut self, start: &FrameStart) -> Option<u16>
         ensures { (received : Received) → AreKeptOf self.old received
             → Judges self.new result (judge received (header_said start.now)) }
@@ -82,7 +82,7 @@ impl ReceivedFrames {
         }
     }
 
-    // The first of these distances below the newest number at which no frame was received.
+    // The distances count down from the newest number. Returns the first distance whose frame wasn't received.
     fn first_missing(&self, distances: &[u16]) -> Option<u16>
         ensures { result ≡ first_failing (is_received self.now.numbers self.now.newest) distances.now }
     {
@@ -126,7 +126,7 @@ impl ReceivedFrames {
     }
 }
 
-// Those of the last 4,096 numbers up to `newest` that a window contains, each lowered by `by`.
+// Returns a window with the numbers that `window` has among the last 4,096 up to `newest`, each lowered by `by`.
 fn lowered(window: &RefWindow, newest: u64, by: u64) -> RefWindow
     requires high { by + 4096 ≤ newest }
     requires small { newest < 2 ^ 63 }

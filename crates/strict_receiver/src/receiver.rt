@@ -14,12 +14,12 @@ use sfu_base::NoMemory;
 use std::alloc::Global;
 use std::marker::Model;
 
-/// A strict receiver of the packets of one layered track (own rule): it sees only the packets and the header extension id of their
-/// dependency descriptors. Clauses see that id, the receiver of `forwarding_model` with those received numbers that are kept, and the
-/// counts of packets and frames.
+/// A strict receiver of the packets of one layered track (own rule). The receiver knows only the packets and the header extension id of their
+/// dependency descriptors. Contracts see this id, the counts of packets and frames, and the receiver of `forwarding_model` with those received
+/// numbers that are kept.
 #[derive(Drop)]
 pub struct Receiver {
-    // On the heap, since a state is large (it has two template structures), and receivers are moved.
+    // On the heap, because receivers are moved and a state is large: it has two template structures.
     state: Box<State>,
     packets: u64,
     frames: u64,
@@ -38,7 +38,8 @@ impl Model for Receiver {
 }
 
 impl Receiver {
-    /// A receiver before its first packet, for descriptors with this header extension id. All memory of the receiver is allocated here.
+    /// A receiver before its first packet, for descriptors with this header extension id. Returns `NoMemory` if memory runs out. No later call
+    /// allocates memory.
     pub fn new(alloc: Global, id: u8) -> Result<Receiver, NoMemory>
         ensures id { IfOk result (λ receiver. receiver.id ≡ id) }
         ensures stands { IfOk result (λ receiver. StandsFor receiver []) }
@@ -50,7 +51,7 @@ impl Receiver {
         })
     }
 
-    /// Processes the next packet, given its bytes. Returns the first complaint about the packets so far, if there is one. After a complaint each
+    /// Processes the bytes of the next packet. Returns the first complaint about the packets so far, if there is one. After a complaint, each
     /// call returns it again and changes nothing.
     pub fn feed(&mut self, packet: &[u8]) -> Result<(), Complaint>
         ensures id { self.new.id ≡ self.old.id }
@@ -71,7 +72,7 @@ impl Receiver {
         Ok(())
     }
 
-    /// How many frames were accepted: those whose last packet was accepted. The count stops at 2^64 - 1.
+    /// How many frames were accepted. A frame is accepted with its last packet. The count stops at 2^64 - 1.
     pub fn frames(&self) -> u64
         ensures { result ≡ self.now.frames }
     {
@@ -92,8 +93,8 @@ impl Receiver {
         self.state.has_ended_a_frame()
     }
 
-    /// The template structure in force, as long as all packets are accepted; `None` before the first packet. After a complaint no clause says
-    /// which structure is returned.
+    /// The template structure in force, if all packets so far were accepted, or `None` before the first packet. After a complaint, the result
+    /// is unspecified.
     pub fn structure(&self) -> Option<&Structure>
         ensures { (r : Reception TemplateStructure) → self.now.receiver ≡ Receiving r → option_copied result ≡ r.structure }
     {

@@ -25,11 +25,11 @@ use rtp_packet::Rtp;
 /// The progress of a receiver.
 #[derive(Clone, Copy, Debug)]
 pub enum Stage {
-    /// No packet came yet.
+    /// No packet has arrived yet.
     Waiting,
     /// All packets so far were accepted.
     Receiving(Last),
-    /// There was this complaint about a packet, and it stays.
+    /// The receiver had this complaint about a packet, and keeps it.
     Complaining(Complaint),
 }
 
@@ -40,12 +40,12 @@ pub struct Last {
     pub sequence: u16,
 }
 
-/// The state of a receiver. `id` is the header extension id of the descriptors; `newest` is scratch space for the parser.
+/// The state of a receiver. `id` is the header extension id of the descriptors. `newest` is working memory of the parser.
 #[derive(Drop)]
 pub struct State {
     pub id: u8,
     pub stage: Stage,
-    /// The frame that has begun and not ended.
+    /// The frame that has begun and hasn't ended yet.
     pub frame: Option<OpenFrame>,
     /// The structure in force.
     pub structure: Option<Structure>,
@@ -69,7 +69,7 @@ impl State {
         }
     }
 
-    /// Processes the next packet. A complaint is kept, and returned by every later call.
+    /// Processes the next packet. If there is a complaint, it is kept, and every later call returns it.
     pub fn next(&mut self, packet: &[u8]) -> Result<(), Complaint>
         ensures id { self.new.id ≡ self.old.id }
         ensures again { (complaint : Complaint) → self.old.stage ≡ Stage.Complaining complaint → result ≡ Err complaint }
@@ -89,7 +89,7 @@ impl State {
         }
     }
 
-    /// Whether the last packet was accepted and left no frame open.
+    /// Whether the last packet was accepted and ended a frame.
     pub fn has_ended_a_frame(&self) -> bool
         ensures { (m : Receiver TemplateStructure) → IsStateOf self.now m → (if result then 1 else 0) ≡ ends_frame m }
     {
@@ -196,8 +196,8 @@ impl State {
         }
     }
 
-    // Adds the newest packet to the open frame, or begins a frame with it if none is open. Returns false if it can't do so: the frame isn't
-    // whole then.
+    // Adds the newest packet to the open frame or, if none is open, begins a frame with it. Returns false if neither is possible. The frame
+    // isn't complete then.
     fn join(&mut self, continues: bool, carries: bool) -> bool
         requires { HasDistances self.old.newest }
         ensures rest { self.new ≡ record self.old { frame = self.new.frame } }
@@ -226,8 +226,8 @@ impl State {
         }
     }
 
-    // Ends the open frame if the newest packet has the end bit. Complains if the frame then has an open element (`NotWhole`) or lacks a
-    // reference (`MissingReference`).
+    // Ends the open frame if the newest packet has the end bit. The complaint is `NotWhole` if the frame then has an unfinished element, and
+    // `MissingReference` if a frame that it refers to wasn't received.
     fn finish(&mut self) -> Result<(), Complaint>
         requires { is_some self.old.frame ≡ true }
         ensures rest { self.new ≡ record self.old { frame = self.new.frame; received = self.new.received } }

@@ -1,4 +1,4 @@
-// Rows of packets, and what a receiver returns for the last of them.
+// Rows of packets, and the result of a receiver for the last of them.
 
 ghost use Rattle.std.specs.Prelude.{◌≤◌};
 
@@ -36,7 +36,7 @@ fn a_repeated_packet_is_complained_of_for_good(rt: HostRuntime) -> Result<(), Fa
 
 const SOURCE: u32 = 0x1111_1111;
 
-// A packet that has its descriptor under id 4 in the one-byte form.
+// A packet with a descriptor in the one-byte form, with id 4.
 #[derive(Drop)]
 struct Packet {
     bytes: [u8; 48],
@@ -44,7 +44,7 @@ struct Packet {
     ghost few: { len ≤ 48 },
 }
 
-// The packet with this sequence number, descriptor and payload; `None` if they are too long for it.
+// The packet with this SSRC, sequence number, descriptor and payload, or `None` if they are too long for it.
 fn packet_with(ssrc: u32, seq: u16, descriptor: &[u8], payload: &[u8]) -> Option<Packet> {
     if descriptor.is_empty() || descriptor.len() > 16 || payload.len() > 8 {
         return None;
@@ -68,14 +68,14 @@ fn packet_with(ssrc: u32, seq: u16, descriptor: &[u8], payload: &[u8]) -> Option
 // A sequence number, a descriptor and a payload.
 type Step<'a> = (u16, &'a [u8], &'a [u8]);
 
-// Feeds the packet of this step to the receiver, and returns the result; `None` if the packet is too long.
+// Feeds the packet of this step to the receiver, and returns the result, or `None` if the packet is too long.
 fn answer_to(receiver: &mut Receiver, step: Step<'_>) -> Option<Result<(), Complaint>> {
     let (seq, descriptor, payload) = step;
     let Packet { bytes, len } = packet_with(SOURCE, seq, descriptor, payload)?;
     Some(receiver.feed(&bytes[..len]))
 }
 
-// Key descriptors of one target and one chain; template 1 refers to the previous frame.
+// Key descriptors with one target and one chain. Template 1 refers to the previous frame.
 const KEY_1: [u8; 9] = [0xc0, 0x00, 0x01, 0x80, 0x00, 0x3a, 0x41, 0x01, 0x00];
 
 const KEY_2: [u8; 9] = [0xc0, 0x00, 0x02, 0x80, 0x00, 0x3a, 0x41, 0x01, 0x00];
@@ -86,13 +86,13 @@ const KEY_5: [u8; 9] = [0xc0, 0x00, 0x05, 0x80, 0x00, 0x3a, 0x41, 0x01, 0x00];
 
 const KEY_65535: [u8; 9] = [0xc0, 0xff, 0xff, 0x80, 0x00, 0x3a, 0x41, 0x01, 0x00];
 
-// The first packet of key frame 1, and the end of frame 2 with another structure.
+// Descriptors of the first packet of key frame 1, and of the last packet of frame 2, which carries another structure.
 const KEY_START: [u8; 9] = [0x80, 0x00, 0x01, 0x80, 0x00, 0x3a, 0x41, 0x01, 0x00];
 
 const OTHER: [u8; 9] = [0x41, 0x00, 0x02, 0x80, 0x00, 0x3b, 0x41, 0x01, 0x00];
 
-// Frames of one packet by template 1: frames 2, 3, 4, 6, 7 and 0; frames 4 and 7 that refer two frames back; frames 3 and 6 without
-// references; frames 4097 and 4098 that refer 4,096 frames back.
+// Descriptors of frames in one packet, by template 1. First come frames 2, 3, 4, 6, 7 and 0, then frames 4 and 7 that refer two frames back.
+// Then come frames 3 and 6 without references, and frames 4097 and 4098 that refer 4,096 frames back.
 const FRAME_2: [u8; 3] = [0xc1, 0x00, 0x02];
 
 const FRAME_3: [u8; 3] = [0xc1, 0x00, 0x03];
@@ -117,7 +117,7 @@ const FRAME_4097_FAR_BACK: [u8; 6] = [0xc1, 0x10, 0x01, 0x17, 0xff, 0xe0];
 
 const FRAME_4098_FAR_BACK: [u8; 6] = [0xc1, 0x10, 0x02, 0x17, 0xff, 0xe0];
 
-// The first, a middle and the last packet of frame 2, and the last of frame 3.
+// Descriptors of the first, a middle and the last packet of frame 2, and of the last packet of frame 3.
 const START_2: [u8; 3] = [0x81, 0x00, 0x02];
 
 const MIDDLE_2: [u8; 3] = [0x01, 0x00, 0x02];
@@ -126,8 +126,8 @@ const END_2: [u8; 3] = [0x41, 0x00, 0x02];
 
 const END_3: [u8; 3] = [0x41, 0x00, 0x03];
 
-// Payloads of one element: it is complete; it continues in the next packet; it began in an earlier packet and continues in the next one; it
-// began in an earlier packet and ends here.
+// Payloads of one element. The first has a complete element, and in the second the element continues in the next packet. In the third the
+// element began in an earlier packet and continues in the next one, and in the fourth it ends here.
 const CLOSED: [u8; 3] = [0x10, 0x30, 0x00];
 
 const CARRIES: [u8; 3] = [0x50, 0x30, 0x00];
@@ -141,8 +141,8 @@ const BROKEN: [u8; 1] = [0x20];
 
 // ---- rows
 
-// Checks that all steps but the last are accepted, that `last` is returned for the last, and that `counts` are the accepted packets and frames.
-// After a complaint every further packet gets that complaint, and nothing changes.
+// Checks that all steps but the last are accepted, and that the result of the last step is `last`. `counts` must be the numbers of accepted
+// packets and frames. Also checks that after a complaint further packets get the same complaint and change nothing.
 fn answers_last(
     rt: &impl Abort,
     receiver: &mut Receiver,
@@ -173,7 +173,7 @@ fn whole_frames_with_all_references_are_accepted(rt: HostRuntime) -> Result<(), 
         // sequence numbers wrap, and so do frame numbers
         (&[(65535, &KEY_1, &CLOSED), (0, &FRAME_2, &CLOSED)], (2, 2)),
         (&[(0, &KEY_65535, &CLOSED), (1, &FRAME_0, &CLOSED)], (2, 2)),
-        // a frame in three packets, whose elements join, and one that isn't finished
+        // a frame in three packets, whose elements join, and a frame that isn't finished
         (
             &[
                 (0, &KEY_1, &CLOSED),
@@ -191,7 +191,7 @@ fn whole_frames_with_all_references_are_accepted(rt: HostRuntime) -> Result<(), 
             ],
             (3, 1),
         ),
-        // a frame that refers two back, and one that refers to a second key frame
+        // a frame that refers two frames back, and one that refers to a second key frame
         (
             &[
                 (0, &KEY_2, &CLOSED),
@@ -209,7 +209,7 @@ fn whole_frames_with_all_references_are_accepted(rt: HostRuntime) -> Result<(), 
             ],
             (4, 4),
         ),
-        // a key frame whose number is the same, and one whose number is lower
+        // a second key frame with the same number, and one with a lower number
         (
             &[
                 (0, &KEY_3, &CLOSED),
@@ -235,7 +235,7 @@ fn whole_frames_with_all_references_are_accepted(rt: HostRuntime) -> Result<(), 
             ],
             (3, 3),
         ),
-        // a reference as far back as there can be one
+        // a reference at the greatest distance
         (
             &[(0, &KEY_1, &CLOSED), (1, &FRAME_4097_FAR_BACK, &CLOSED)],
             (2, 2),
@@ -253,7 +253,7 @@ fn each_complaint_is_answered_for_good(rt: HostRuntime) -> Result<(), Fail> {
     let numbers = |had: u16, got: u16| Complaint::Sequence { had, got };
     let missing = |frame: u16, fdiff: u16| Complaint::MissingReference { frame, fdiff };
     let rows: [(&[Step<'_>], Complaint, (u64, u64)); 28] = [
-        // a sequence number that is repeated, skips one, or goes back
+        // a sequence number that is repeated, that skips a number, or that is lower
         (
             &[(65535, &KEY_1, &CLOSED), (65535, &KEY_1, &CLOSED)],
             numbers(65535, 65535),
@@ -269,7 +269,7 @@ fn each_complaint_is_answered_for_good(rt: HostRuntime) -> Result<(), Fail> {
             numbers(0, 65535),
             (1, 1),
         ),
-        // no structure came yet, whatever the payload is
+        // no structure has been received yet, whatever the payload is
         (&[(0, &FRAME_2, &CLOSED)], Complaint::NoStructure, (0, 0)),
         (&[(0, &FRAME_2, &[])], Complaint::NoStructure, (0, 0)),
         // the payload, the descriptor or the structure can't be read
@@ -281,7 +281,7 @@ fn each_complaint_is_answered_for_good(rt: HostRuntime) -> Result<(), Fail> {
             Complaint::Unread,
             (1, 1),
         ),
-        // a start in an unfinished frame, and a continuation without a start
+        // a start bit in an unfinished frame, and a continuation without a start
         (
             &[(0, &KEY_START, &CLOSED), (1, &KEY_2, &CLOSED)],
             Complaint::NotWhole,
@@ -316,7 +316,7 @@ fn each_complaint_is_answered_for_good(rt: HostRuntime) -> Result<(), Fail> {
             Complaint::NotWhole,
             (2, 1),
         ),
-        // a broken join, at the first packet of a frame, between two, and at the last
+        // elements that don't join, at the first packet of a frame, between two packets, and at the last packet
         (&[(0, &KEY_1, &CONTINUES)], Complaint::NotWhole, (0, 0)),
         (
             &[
@@ -350,7 +350,7 @@ fn each_complaint_is_answered_for_good(rt: HostRuntime) -> Result<(), Fail> {
             Complaint::NotWhole,
             (2, 1),
         ),
-        // a reference to a frame that wasn't received, or not since the key frame, or not since the frame number that didn't rise
+        // a reference to a frame that wasn't received, or not since the last key frame, or not since a frame number that didn't rise
         (
             &[(0, &KEY_1, &CLOSED), (1, &FRAME_3, &CLOSED)],
             missing(3, 1),
@@ -409,7 +409,7 @@ fn each_complaint_is_answered_for_good(rt: HostRuntime) -> Result<(), Fail> {
             missing(4098, 4096),
             (1, 1),
         ),
-        // a frame that isn't whole: there is no complaint about its missing reference
+        // a frame that isn't complete: there is no complaint about its missing reference
         (
             &[(0, &KEY_1, &CLOSED), (1, &FRAME_7, &CARRIES)],
             Complaint::NotWhole,
@@ -441,7 +441,7 @@ fn the_source_and_the_id_are_those_of_the_first_packet(rt: HostRuntime) -> Resul
         answer_to(&mut receiver, (8, &FRAME_2, &CLOSED)),
         Some(Err(other))
     );
-    // no element has this id
+    // no header extension element has this id
     let mut receiver = Receiver::new(rt.alloc(), 5)?;
     assert_eq!(rt;
         answer_to(&mut receiver, (7, &KEY_1, &CLOSED)),
@@ -480,7 +480,7 @@ fn a_frame_has_at_most_512_packets(rt: HostRuntime) -> Result<(), Fail> {
     Ok(())
 }
 
-// A frame of one packet by template 1, with this number; and the same without a reference.
+// The descriptor of a frame in one packet, by template 1, with this number. `frame_alone` is the same without a reference.
 fn frame(number: u16) -> [u8; 3] {
     let [high, low] = number.to_be_bytes();
     [0xc1, high, low]
@@ -515,7 +515,8 @@ fn frame_numbers_go_on_however_far_apart_they_lie(rt: HostRuntime) -> Result<(),
     );
     assert_eq!(rt; (receiver.packets(), receiver.frames()), (514, 514));
 
-    // 1,200 frames, each 32,767 above the one before, the most that counts as above; each is followed by a frame that refers to it.
+    // 1,200 frames, each with a number 32,767 above the one before, which is the farthest that counts as above. Each of these frames is followed by
+    // a frame that refers to it.
     let mut receiver = Receiver::new(rt.alloc(), 4)?;
     assert_eq!(rt;
         answer_to(&mut receiver, (0, &KEY_1, &CLOSED)),

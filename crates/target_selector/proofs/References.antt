@@ -39,7 +39,7 @@ or_bit a b t =
 pub none_needed : AreNeeded 0 []
 none_needed t = ap (λ b. b == 1) (bit_at-zero t)
 
--- one more distance
+-- one further distance
 pub needed_next : (needed mask : ℕ) (xs : List ℕ) (i : ℕ) → i < length xs → mask ≡ 2 ^ needed_bit (get_or xs i 0) → AreNeeded needed (take i xs)
     → AreNeeded (bit_or needed mask) (take (i + 1) xs)
 needed_next needed mask xs i lt is are t =
@@ -53,7 +53,7 @@ needed_next needed mask xs i lt is are t =
 abbrev pub are_within : ℕ → List ℕ → Bool
 are_within passed xs = list_all (λ d. bit_at passed (needed_bit d) == 1) xs
 
--- a bit that is needed is there
+-- a bit that is needed is set
 within_bit : (needed passed d : ℕ) → bit_and needed passed ≡ needed → bit_at needed d ≡ 1 → bit_at passed d ≡ 1
 within_bit needed passed d all bit =
     let both : bit_at needed d ≡ min (bit_at needed d) (bit_at passed d) = ap (λ m. bit_at m d) (sym all) ∙ bit_at_and needed passed d in

@@ -1,5 +1,5 @@
--- Which standings a selector stands for. Own rules.
--- The standing of a timeline goes event by event, so a fact about every standing that a selector stands for is one about every timeline.
+-- Which standings a selector represents. Own rules.
+-- A standing is the state of a timeline after its events, so a fact about every standing that a selector represents is a fact about every timeline.
 use Rattle.std.specs.Prelude.{◌≡◌, ◌+◌, ◌<◌, ◌≤◌, ◌&&◌, ℕ, Bool, true, false, Option}
 use Rattle.std.specs.List.{AllByRecursion, list_any}
 use Rattle.std.specs.declared.option.Option.TheVariants.{None, Some}
@@ -18,7 +18,7 @@ use Rattle.target_selector.specs.Offers.{Offered}
 use Rattle.target_selector.specs.Reaching.{targets_of}
 use Rattle.target_selector.specs.Seen.{Seen}
 
--- all but what is queued and what passed in earlier epochs
+-- the selector agrees with the standing, except for the queue and for the frames that passed in earlier epochs
 pub record StandsFor (x : Seen) (s : Standing) : Type 0 where
   pub wish : x.wish ≡ s.wish
   pub epoch : x.epoch ≡ s.epoch
@@ -26,7 +26,7 @@ pub record StandsFor (x : Seen) (s : Standing) : Type 0 where
   pub key_passed : x.key_passed ≡ list_any is_key s.epoch_passed
   pub numbers : x.numbers ≡ held_of (numbers_of s.epoch_passed)
 
--- the same at a frame, once the selector is in its epoch
+-- the same at a frame, after the selector has begun the frame's epoch
 pub record StandsAt (x : Seen) (s : Standing) (f : FrameMeaning) : Type 0 where
   pub wish : x.wish ≡ s.wish
   pub epoch : x.epoch ≡ Some f.epoch
@@ -34,7 +34,7 @@ pub record StandsAt (x : Seen) (s : Standing) (f : FrameMeaning) : Type 0 where
   pub key_passed : x.key_passed ≡ key_passed s f
   pub numbers : x.numbers ≡ held_of (numbers_of (passed_at s f))
 
--- the same once the rules on the mask and the link were applied: what is left of the target stays where the frame doesn't pass
+-- the same after the rules on the mask and the link were applied: the target that is left stays if the frame doesn't pass
 pub record KeepsAt (x : Seen) (s : Standing) (f : FrameMeaning) : Type 0 where
   pub wish : x.wish ≡ s.wish
   pub epoch : x.epoch ≡ Some f.epoch
@@ -42,7 +42,7 @@ pub record KeepsAt (x : Seen) (s : Standing) (f : FrameMeaning) : Type 0 where
   pub key_passed : x.key_passed ≡ key_passed s f
   pub numbers : x.numbers ≡ held_of (numbers_of (passed_at s f))
 
--- each frame that passed in the epoch lies below the frame
+-- each frame that passed in the epoch is below the frame
 abbrev pub IsAboveAll : FrameMeaning → Standing → Type 0
 IsAboveAll f s = AllByRecursion (λ g. g.number < f.number) s.epoch_passed
 
@@ -50,11 +50,12 @@ abbrev pub is_something : Option ℕ → Bool
 is_something None = false
 is_something (Some n) = true
 
--- where f passes, it opens its target
+-- if f passes, it opens its target
 abbrev pub is_opening_at : Standing → FrameMeaning → Bool
 is_opening_at s f = is_something (opening (has_passed s f) (key_passed s f) s.wish f (kept_target_at s f))
 
--- whether the frame passes, and the verdict on it, by its first reference that wasn't passed, what it opens, and what is left of the target
+-- Whether the frame passes, and the verdict on it. Both follow from its first
+-- reference that wasn't passed, the target that it opens, and the target that is left.
 abbrev pub passes_by : FrameMeaning → ℕ → ℕ → CurrentTarget → Option ℕ → Option ℕ → Bool
 passes_by f packets queued kept missing opened = is_present_in f (opened_or f opened kept) && (is_nothing missing && has_room queued packets)
 
@@ -63,15 +64,15 @@ verdict_by f packets queued wish kept missing opened =
     target_verdict f (target_of wish f (opened_or f opened kept))
     (reference_verdict f missing (candidate_verdict queued packets (opened_or f opened kept)))
 
--- what was found of a frame is what the rules say of it at the standing
+-- These values, computed for a frame, agree with the rules for the frame in this state of the subscriber.
 pub record IsJudged (s : Standing) (f : FrameMeaning) (packets queued : ℕ) (kept : CurrentTarget) (missing opened : Option ℕ) : Type 0 where
   pub candidate : opened_or f opened kept ≡ candidate_at s f
   pub opens : is_something opened ≡ is_opening_at s f
   pub passes : passes_by f packets queued kept missing opened ≡ passes_at s f packets
   pub verdict : verdict_by f packets queued s.wish kept missing opened ≡ verdict_at s f packets
 
--- An offered frame got this verdict, where so many packets were queued: that of each standing that the selector stood for, if its passed frames are below the
--- frame. The selector stands for what follows, and tells of the frame.
+-- An offered frame got this verdict while `queued` packets were queued. It is the verdict of each standing that the selector
+-- represented, if the standing's passed frames are below the frame. The selector then represents the next standing.
 pub record IsAdmitted (old new : Seen) (offer : Offered) (queued : ℕ) (result : Verdict) : Type 0 where
   pub verdict : (s : Standing) → StandsFor old s → IsAboveAll offer.frame s → s.queued ≡ queued → result ≡ verdict_at s offer.frame offer.packets
   pub stands : (s : Standing) → StandsFor old s → IsAboveAll offer.frame s → s.queued ≡ queued → StandsFor new (after_frame s offer.frame offer.packets)

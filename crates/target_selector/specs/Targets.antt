@@ -1,4 +1,4 @@
--- Facts that keep indexes within arrays, and tests as the code makes them, by the layers of a frame's targets.
+-- Facts that keep indexes within arrays, and the code's tests on the layers of a frame's targets.
 use Rattle.std.specs.Prelude.{◌≡◌, ◌<◌, ◌/◌, ◌%◌, ◌^◌, ◌==◌, ◌&&◌, ◌+◌, ◌*◌, ℕ, zero, suc, List, Bool, true, if◌then◌else◌, slice_index_or}
 use Rattle.std.specs.declared.option.Option.{Option}
 use Rattle.std.specs.declared.option.Option.TheVariants.{None, Some}
@@ -18,21 +18,21 @@ abbrev pub IsBelow : ℕ → Option ℕ → Type 0
 IsBelow n None = Unit {0}
 IsBelow n (Some target) = target < n
 
--- no target is open; or the open one is active at f and, by a mask of passed frames, linked
+-- no target is open, or the open one is active at f and is linked by a mask of passed frames
 abbrev pub stays : FrameMeaning → CurrentTarget → ℕ → Bool
 stays f (Open target opened) passed = is_active f target && is_linked f target passed
 stays f (Closed reason) passed = true
 
--- the target's bit is set in the mask, the lowest bit for target 0
+-- the target's bit is set in the mask; bit 0 is the lowest
 abbrev pub is_bit : ℕ → ℕ → Bool
 is_bit mask target = (mask / 2 ^ target) % 2 == 1
 
--- ---- the definitions on a frame's targets, by their layers
+-- ---- the definitions for a frame's targets, by their layers
 
 abbrev pub layers_in : List (Option Wish) → ℕ → Option Wish
 layers_in pairs target = slice_index_or pairs target None
 
--- the target is one of these, and its layers are within the wish
+-- the target is in this mask, and its layers are within the wish
 abbrev pub allows : Wish → ℕ → List (Option Wish) → ℕ → Bool
 allows wish among pairs target = is_bit among target && is_within wish (layers_in pairs target)
 
@@ -45,13 +45,13 @@ abbrev pub best_in : List (Option Wish) → (ℕ → Bool) → ℕ → Option �
 best_in pairs test zero = None
 best_in pairs test (suc target) = better_in pairs (test target) target (best_in pairs test target)
 
--- ---- the best so far, with how high its layers are
+-- ---- the best target so far, and its height
 
--- the spatial id decides, then the temporal
+-- the spatial id decides, then the temporal id
 abbrev pub height : Wish → ℕ
 height layers = layers.spatial * 256 + layers.temporal
 
--- it lies below n, and a better one behind it is higher
+-- it is below n, and a better target after it is higher
 pub record IsHigh (pairs : List (Option Wish)) (n target least : ℕ) : Type 0 where
   pub layers : Wish
   pub before : target < n

@@ -1,4 +1,4 @@
-// What a frame says to all subscribers of its track, found once.
+// What is the same for all subscribers of a frame's track, computed once per frame.
 ghost use Rattle.std.specs.Prelude.{◌≡◌, ◌≤◌, ◌<◌, ◌==◌, ◌^◌, ◌||◌, ◌&&◌, ℕ, List, None, Some, true, false};
 ghost use Rattle.std.specs.Int.{bit_at};
 ghost use Rattle.std.specs.List.{list_all};
@@ -28,20 +28,20 @@ const EVERYTHING: Wish = Wish {
     temporal: u8::MAX,
 };
 
-/// The active targets that a decoder can begin at a frame, and the best of them.
+/// The active targets that a decoder can begin to decode at a frame, and the best of them.
 #[derive(Clone, Copy, Debug)]
 pub struct Begun {
     pub targets: u32,
     pub top: Option<u8>,
 }
 
-/// A frame, how many packets it has, and what is the same for all subscribers of its track: which frames it refers to, at which of its
-/// targets a decoder can begin, and which of these is best. An offer is made once a frame. Clauses see the frame and the count of packets.
+/// A frame, its number of packets, and what is the same for all subscribers of its track: the distances of its references, the targets that
+/// a decoder can begin at it, and the best of these. An offer is made once per frame. Clauses see the frame and the number of packets.
 #[derive(Debug, Drop)]
 pub struct FrameOffer<'a> {
     frame: &'a FrameMeaning,
     packets: u16,
-    // the distances of its references, each as a bit; bit 0 stands for those of 64 or more
+    // a mask of the distances of its references; bit 0 stands for each distance of 64 or more
     needed: u64,
     begun: Begun,
 }
@@ -57,7 +57,7 @@ impl<'a> Model for FrameOffer<'a> {
 }
 
 impl<'a> FrameOffer<'a> {
-    /// The offer of a frame of `packets` packets.
+    /// Returns the offer of a frame that has `packets` packets.
     pub fn new(frame: &'a FrameMeaning, packets: u16) -> FrameOffer<'a>
         requires { IsValid frame.now }
         ensures { result ≡ record { frame = frame.now; packets = packets } }
@@ -70,7 +70,7 @@ impl<'a> FrameOffer<'a> {
         }
     }
 
-    /// The frame.
+    /// Returns the frame.
     pub fn frame(&self) -> &FrameMeaning
         ensures frame { result.now ≡ self.now.frame }
         ensures valid { IsValid self.now.frame }
@@ -78,22 +78,22 @@ impl<'a> FrameOffer<'a> {
         self.frame
     }
 
-    /// The frame's number.
+    /// Returns the frame's number.
     pub fn number(&self) -> u64
         ensures { result ≡ self.now.frame.number }
     {
         self.frame.number
     }
 
-    /// How many packets the frame has.
+    /// Returns the number of packets that the frame has.
     pub fn packets(&self) -> u16
         ensures { result ≡ self.now.packets }
     {
         self.packets
     }
 
-    /// Whether all references of the frame are in a mask of passed frames: bit d of the mask, for d from 1 to 63, is the frame whose number
-    /// is d below this one's. For a reference further below bit 0 has to be set, which stands for no frame.
+    /// Returns whether all references of the frame are in the mask `passed` of passed frames. Bit d of the mask, for d from 1 to 63,
+    /// stands for the frame whose number is d below this one's. Bit 0 stands for no frame; it has to be 1 if a reference is further below.
     pub fn refers_within(&self, passed: u64) -> bool
         ensures valid { IsValid self.now.frame }
         ensures exact { result ≡ list_all (λ distance. bit_at passed (needed_bit distance) == 1) (references self.now.frame) }
@@ -103,8 +103,8 @@ impl<'a> FrameOffer<'a> {
         self.needed & passed == self.needed
     }
 
-    /// The best target that the frame opens for this wish in place of the current one, if it opens one. `complete` is whether all references of the
-    /// frame were passed, `key_passed` whether the key frame of its epoch was.
+    /// Returns the best target that the frame opens for `wish` in place of the current target, or `None` if it opens none. `complete`
+    /// says whether all references of the frame were passed. `key_passed` says whether a key frame of its epoch was passed.
     pub fn opening(
         &self,
         wish: Wish,
@@ -116,7 +116,7 @@ impl<'a> FrameOffer<'a> {
         ensures value { result ≡ best self.now.frame (can_open wish complete (self.now.frame.key || key_passed) self.now.frame current.now) }
         ensures below { IsBelow 32 result }
     {
-        // Most frames begin nothing.
+        // Most frames begin no target.
         let top = self.begun.top?;
         if !self.is_ready(complete, key_passed) {
             return None;
@@ -131,14 +131,14 @@ impl<'a> FrameOffer<'a> {
         complete && (self.frame.key || key_passed)
     }
 
-    // The best of the targets within the wish that a decoder can begin here. Mostly that is the best of all.
+    // Returns the best target within the wish that a decoder can begin at this frame. In most cases it is `top`, the best of all.
     fn best_within(&self, wish: Wish, top: u8) -> Option<u8>
         requires top { Some top ≡ best self.now.frame (begins_within everything self.now.frame) }
         requires small { top < 32 }
         ensures value { result ≡ best self.now.frame (begins_within wish self.now.frame) }
         ensures below { IsBelow 32 result }
     {
-        // The checker knows the range of fields that are read.
+        // Reading the fields lets the checker know their ranges.
         let Wish { .. } = wish;
         let pairs = &self.frame.pairs;
         if is_within(wish, layers(pairs, top)) {
@@ -148,7 +148,7 @@ impl<'a> FrameOffer<'a> {
         }
     }
 
-    // Whether `chosen`, the best target that begins, replaces the current one: no target is open, the open one isn't allowed, or `chosen` is better.
+    // Returns whether `chosen`, the best target that begins, replaces the current one: no target is open, the open one isn't allowed, or `chosen` is better.
     fn is_upgrade(&self, wish: Wish, current: CurrentTarget, chosen: u8) -> bool
         requires best { Some chosen ≡ best self.now.frame (begins_within wish self.now.frame) }
         requires below { chosen < 32 }
@@ -165,7 +165,7 @@ impl<'a> FrameOffer<'a> {
         }
     }
 
-    /// The best target that the wish allows, if it allows one.
+    /// Returns the best target of the frame that the wish allows, or `None` if it allows none.
     pub fn aim(&self, wish: Wish) -> Option<u8>
         ensures { result ≡ aim wish self.now.frame }
     {
@@ -173,15 +173,15 @@ impl<'a> FrameOffer<'a> {
         best_of(wish, frame.mask, frame.target_count, &frame.pairs)
     }
 
-    /// Whether the frame belongs to the target.
+    /// Returns whether the frame belongs to the target.
     pub fn is_present(&self, target: u8) -> bool
         ensures { result ≡ is_present self.now.frame target }
     {
         target < self.frame.target_count && self.frame.dtis[usize::from(target)] != Dti::NotPresent
     }
 
-    /// Whether the frame passes: it belongs to the target that it opens, or if it opens none, to the open one; all its references were passed; and its
-    /// packets fit in the queue.
+    /// Returns whether the frame passes: all its references were passed, its packets fit in the queue,
+    /// and it belongs to the target that it opens. If it opens none, it has to belong to the open target.
     pub fn passes(
         &self,
         opening: Option<u8>,
@@ -204,7 +204,7 @@ impl<'a> FrameOffer<'a> {
         }
     }
 
-    /// Whether a target is open and the frame has the spatial id of that target's layers.
+    /// Returns whether a target is open and the frame's spatial id is the highest one of that target.
     pub fn is_top_layer(&self, current: CurrentTarget) -> bool
         requires { IsIndexBelow 32 current }
         ensures { result ≡ is_top_layer self.now.frame current }
@@ -218,8 +218,8 @@ impl<'a> FrameOffer<'a> {
         }
     }
 
-    /// The mask of the targets that a subscriber with this target gets of the frame: those in the frame's mask whose layers are at most those of
-    /// `target`. Bit i, the lowest first, is target i. Without a target the mask is 0.
+    /// Returns the mask of the frame's targets that a subscriber of `target` receives: those in the frame's mask whose layers
+    /// are at most those of `target`. Bit i stands for target i (bit 0 is the lowest). Without a target the mask is 0.
     #[inline(never)]
     pub fn mask_for(&self, target: Option<u8>) -> u32
         requires { IsBelow 32 target }
@@ -236,7 +236,7 @@ impl<'a> FrameOffer<'a> {
     }
 }
 
-// The distances of the frame's references, as a mask. Bit 0 stands in for a distance of 64 or more.
+// Returns the distances of the frame's references, as a mask. Bit 0 stands in for a distance of 64 or more.
 fn distances(frame: &FrameMeaning) -> u64
     requires { IsValid frame.now }
     ensures { AreNeeded result (references frame.now) }
@@ -280,7 +280,7 @@ fn begun_some(frame: &FrameMeaning) -> Begun
     }
 }
 
-// Whether the frame is a key frame, or a switch for a target. All places are looked at, so that the compiler compares many at once.
+// Returns whether the frame is a key frame, or a switch for some target. The loop visits all 32 targets, so that the compiler compares several at once.
 #[inline(always)]
 fn begins_some(frame: &FrameMeaning) -> bool
     ensures { (target : ℕ) → target < 32 → result ≡ false → begins frame.now target ≡ false }
@@ -292,7 +292,7 @@ fn begins_some(frame: &FrameMeaning) -> bool
     begins
 }
 
-// The targets of the frame, active or not, that a decoder can begin at it.
+// Returns the targets of the frame, active or not, that a decoder can begin at it.
 fn beginnings(frame: &FrameMeaning) -> u32
     requires { frame.now.target_count ≤ 32 }
     ensures { result ≡ targets_where (says_begin frame.now) frame.now.target_count }
@@ -304,7 +304,7 @@ fn beginnings(frame: &FrameMeaning) -> u32
     ones
 }
 
-// Whether it is a switch for the target, or a key frame that belongs to it.
+// Returns whether the frame is a switch for the target, or a key frame that belongs to the target.
 fn says_begin(frame: &FrameMeaning, target: u8) -> bool
     requires { target < 32 }
     ensures { result ≡ says_begin frame.now target }

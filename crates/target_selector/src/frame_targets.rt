@@ -8,10 +8,10 @@ ghost use Rattle.target_selector.specs.Targets.{IsBelow, IsRanked, allows, best_
 
 use sfu_base::{FrameMeaning, Wish};
 
-/// The highest layers of each decode target: none where no template of the structure is present in the target.
+/// The highest layers of each decode target, or `None` for a target in which no template of the structure is present.
 pub type Pairs = [Option<Wish>; 32];
 
-/// A frame's decode targets: how many, which are active, and the layers of each.
+/// A frame's decode targets: their number, the mask of the active ones, and the layers of each.
 #[derive(Clone, Copy, Debug)]
 pub struct FrameTargets {
     pub count: u8,
@@ -27,7 +27,7 @@ pub const NO_TARGETS: FrameTargets = FrameTargets {
 };
 
 impl FrameTargets {
-    /// Replaces the targets by the frame's.
+    /// Replaces the targets by those of the frame.
     pub fn set(&mut self, frame: &FrameMeaning)
         ensures { self.new ≡ targets_of frame.now }
     {
@@ -37,14 +37,14 @@ impl FrameTargets {
     }
 }
 
-/// The best target so far, if there is one, and the least height with which a target behind it is better.
+/// The best target so far, if there is one. A target that comes later is better if its height is at least `least`.
 #[derive(Clone, Copy, Debug)]
 pub struct Ranked {
     pub target: Option<u8>,
     pub least: u32,
 }
 
-/// The best of the targets below `count` that are in the mask `among` and whose layers are within the wish.
+/// Returns the best of the targets below `count` that are in the mask `among` and whose layers are within the wish.
 #[tactic(auto, using(crate::proofs::Bests::best_step))]
 pub fn best_of(wish: Wish, among: u32, count: u8, pairs: &Pairs) -> Option<u8>
     requires { count ≤ 32 }
@@ -61,7 +61,7 @@ pub fn best_of(wish: Wish, among: u32, count: u8, pairs: &Pairs) -> Option<u8>
     best.target
 }
 
-// `target`, if it is in the mask `among`, its layers are within the wish, and it is better than `best`; else `best`.
+// Returns `target` if it is in the mask `among`, its layers are within the wish, and it is better than `best`; otherwise returns `best`.
 fn better(wish: Wish, among: u32, pairs: &Pairs, target: u8, best: Ranked) -> Ranked
     requires target { target < 32 }
     requires best { IsRanked pairs.now target best }
@@ -83,7 +83,7 @@ fn better(wish: Wish, among: u32, pairs: &Pairs, target: u8, best: Ranked) -> Ra
     }
 }
 
-// The rank of layers, by the spatial and then the temporal id: of two targets the one whose layers have the greater height is better.
+// Ranks layers by the spatial id, then by the temporal id. Of two targets the one whose layers have the greater height is better.
 fn height(layers: Wish) -> u32
     ensures height { result ≡ height layers }
     ensures temporal { layers.temporal < 256 }
@@ -92,7 +92,7 @@ fn height(layers: Wish) -> u32
     u32::from(layers.spatial) * 256 + u32::from(layers.temporal)
 }
 
-/// The target's layers, if it has any.
+/// Returns the target's layers, or `None` if it has none.
 pub fn layers(pairs: &Pairs, target: u8) -> Option<Wish>
     requires { target < 32 }
     ensures { result ≡ layers_in pairs.now target }
@@ -100,7 +100,7 @@ pub fn layers(pairs: &Pairs, target: u8) -> Option<Wish>
     pairs[usize::from(target)]
 }
 
-/// Whether the target is in the mask `among`, and its layers are within the wish.
+/// Returns whether the target is in the mask `among` and its layers are within the wish.
 pub fn is_allowed(wish: Wish, among: u32, pairs: &Pairs, target: u8) -> bool
     requires { target < 32 }
     ensures { result ≡ allows wish among pairs.now target }
@@ -108,7 +108,7 @@ pub fn is_allowed(wish: Wish, among: u32, pairs: &Pairs, target: u8) -> bool
     has_bit(among, target) && is_within(wish, layers(pairs, target))
 }
 
-/// Whether the target is better than another: the greater spatial id first, then the greater temporal id, then the lower index.
+/// Returns whether `target` is better than `other`. The greater spatial id decides, then the greater temporal id, then the lower index.
 pub fn is_better(pairs: &Pairs, target: u8, other: u8) -> bool
     requires target { target < 32 }
     requires other { other < 32 }
@@ -126,7 +126,7 @@ pub fn is_better(pairs: &Pairs, target: u8, other: u8) -> bool
     }
 }
 
-/// The mask of the targets below `count` that are in the mask `among` and whose layers are at most `most`.
+/// Returns the mask of the targets below `count` that are in the mask `among` and whose layers are at most `most`.
 pub fn mask_within(most: Wish, among: u32, count: u8, pairs: &Pairs) -> u32
     requires { count ≤ 32 }
     ensures { result ≡ targets_where (allows most among pairs.now) count }
@@ -138,7 +138,7 @@ pub fn mask_within(most: Wish, among: u32, count: u8, pairs: &Pairs) -> u32
     mask
 }
 
-/// The mask, which has only bits below the target's, with the target's bit added if `has`.
+/// Returns the mask, with the target's bit added if `has` is true. The mask has only bits below the target's.
 pub fn with_target(mask: u32, target: u8, has: bool) -> u32
     requires target { target < 32 }
     requires mask { mask < 2 ^ target }
@@ -147,7 +147,7 @@ pub fn with_target(mask: u32, target: u8, has: bool) -> u32
     if has { mask + (1 << target) } else { mask }
 }
 
-/// Whether the target's bit is set in the mask.
+/// Returns whether the target's bit is set in the mask.
 pub fn has_bit(mask: u32, target: u8) -> bool
     requires { target < 32 }
     ensures { result ≡ is_bit mask target }
@@ -155,7 +155,7 @@ pub fn has_bit(mask: u32, target: u8) -> bool
     (mask >> target) % 2 == 1
 }
 
-/// Whether there are layers, and both are at most the wish's.
+/// Returns whether `pair` has layers that are both at most those of the wish.
 pub fn is_within(wish: Wish, pair: Option<Wish>) -> bool
     ensures { result ≡ is_within wish pair }
 {

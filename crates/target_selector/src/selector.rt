@@ -1,4 +1,4 @@
-// The part of a subscriber's standing that decides on frames.
+// The part of a subscriber's state that decides on frames.
 ghost use Rattle.std.specs.Prelude.{◌≡◌, ◌+◌, ◌≤◌, ◌||◌, ◌&&◌, ◌∷◌, Option, Some, false};
 ghost use Rattle.std.specs.Option.{option_map};
 ghost use Rattle.sfu_base.specs.declared.frame.FrameMeaning.{FrameMeaning as Meaning};
@@ -30,10 +30,10 @@ pub struct Selector {
     wish: Wish,
     epoch: Option<u64>,
     target: CurrentTarget,
-    // whether a key frame of the epoch was passed, which the window forgets
+    // whether a key frame of the epoch was passed; the window may have forgotten it
     key_passed: bool,
     passed: RefWindow,
-    // the targets of the last frame, by which later questions are answered; of no meaning where there was none
+    // the targets of the last frame, for later questions; without meaning before the first frame
     newest: FrameTargets,
     top: bool,
     opened: bool,
@@ -59,7 +59,7 @@ impl Model for Selector {
 }
 
 impl Selector {
-    /// The selector of a subscriber that has just joined with this wish. No target is open.
+    /// Returns the selector of a subscriber that has just joined with this wish. No target is open.
     pub fn new(wish: Wish) -> Selector
         ensures begun { result ≡ begun wish }
         ensures stands { StandsFor result (joined wish) }
@@ -77,7 +77,7 @@ impl Selector {
         }
     }
 
-    /// Changes the wish, by which the next frame is judged. The open target stays open.
+    /// Changes the wish, which applies from the next frame on. The open target stays open.
     pub fn aim(&mut self, wish: Wish)
         ensures wish { self.new ≡ record self.old { wish = wish } }
         ensures stands { (s : Standing) → StandsFor self.old s → StandsFor self.new (record s { wish = wish }) }
@@ -85,7 +85,7 @@ impl Selector {
         self.wish = wish;
     }
 
-    /// The target that is open, or none.
+    /// Returns the open target, or `None` if no target is open.
     pub fn target(&self) -> Option<u8>
         ensures target { result ≡ open_target self.now.target }
         ensures few { IsBelow 32 result }
@@ -97,8 +97,8 @@ impl Selector {
         }
     }
 
-    /// The layers of the open target at the last frame: none where no target is open, or no template of that frame's structure is present
-    /// in the target.
+    /// Returns the layers of the open target at the last frame. Returns `None` if no target
+    /// is open, or if no template of that frame's structure is present in the target.
     pub fn layers(&self) -> Option<Wish>
         ensures layers { (newest : Option Meaning) → self.now.newest ≡ option_map targets_of newest → result ≡ target_layers newest self.now.target }
     {
@@ -108,7 +108,7 @@ impl Selector {
         }
     }
 
-    /// Whether the open target is the best that the wish allows at the last frame: false where no target is open.
+    /// Returns whether the open target is the best that the wish allows at the last frame. Returns false if no target is open.
     #[tactic(auto, using(crate::proofs::Bests::reaches_kept))]
     pub fn reaches_wish(&self) -> bool
         ensures reaches { (newest : Option Meaning) → self.now.newest ≡ option_map targets_of newest → result ≡ reaches newest self.now.wish self.now.target }
@@ -135,7 +135,7 @@ impl Selector {
         self.admit_offered(&FrameOffer::new(frame, packets), queued)
     }
 
-    /// The same as [`Selector::admit`], with an offer that was made once for all subscribers.
+    /// Does the same as [`Selector::admit`], with an offer that was made once for all subscribers.
     #[inline(always)]
     pub fn admit_offered(&mut self, offer: &FrameOffer<'_>, queued: u16) -> Verdict
         ensures { IsAdmitted self.old self.new offer.now queued result }
@@ -153,23 +153,23 @@ impl Selector {
         withheld(offer, self.wish, missing, opening, &self.target, queued)
     }
 
-    /// Whether the last frame was passed and has the highest spatial id of the subscriber's open target, so that the frame's last packet
-    /// ends the temporal unit.
+    /// Returns whether the last frame was passed and has the highest spatial id of the
+    /// subscriber's open target. If so, the frame's last packet ends the temporal unit.
     pub fn marks_last(&self) -> bool
         ensures { result ≡ self.now.top }
     {
         self.top
     }
 
-    /// Whether the last frame was passed and opened its target.
+    /// Returns whether the last frame was passed and opened its target.
     pub fn opened(&self) -> bool
         ensures { result ≡ self.now.opened }
     {
         self.opened
     }
 
-    // Prepares for a frame before it is judged. Begins the frame's epoch if that is another one, and closes the open target if that isn't
-    // in the frame's mask or its chain is broken. Returns the passed frames right below the frame, as a mask.
+    // Prepares the selector for a frame, before the verdict. If the frame is of another epoch, begins that epoch. Closes the open
+    // target if it isn't in the frame's mask or its chain is broken. Returns the passed frames just below this frame, as a mask.
     #[inline(always)]
     fn meet(&mut self, offer: &FrameOffer<'_>) -> u64
         ensures stands { (s : Standing) → StandsFor self.old s → IsAboveAll offer.now.frame s → KeepsAt self.new s offer.now.frame }
@@ -238,7 +238,7 @@ fn open(target: &mut CurrentTarget, opening: Option<u8>, opened: u64)
     }
 }
 
-// Whether the best target is the open one.
+// Returns whether the best target is the open one.
 fn is_aimed(best: Option<u8>, current: CurrentTarget) -> bool
     ensures { result ≡ is_aimed best current }
 {

@@ -9,11 +9,11 @@ use crate::frame_offer::FrameOffer;
 use forwarding_model::{CurrentTarget, Reason};
 use sfu_base::{FrameMeaning, Verdict, Wish};
 
-/// How many packets a subscriber's queue has at most (own rule).
+/// The greatest number of packets in a subscriber's queue (own rule).
 pub const MOST_QUEUED: u16 = 512;
 
-/// Returns why a frame is withheld. `missing` is the distance to its first reference that wasn't passed, if there is one; `opening` is the target that
-/// it can open, if it can open one, and `kept` the current one. Out of line: most frames pass.
+/// Returns why a frame is withheld. `missing` is the distance to its first reference that wasn't passed, if there is one. `opening`
+/// is the target that the frame can open, if there is one, and `kept` is the current target. Out of line: most frames pass.
 #[inline(never)]
 pub fn withheld(
     offer: &FrameOffer<'_>,
@@ -51,7 +51,7 @@ pub fn withheld(
     }
 }
 
-// The target that the frame opens, else `kept`.
+// Returns the target that the frame opens, or `kept` if it opens none.
 fn opened_or(frame: &FrameMeaning, opening: Option<u8>, kept: CurrentTarget) -> CurrentTarget
     ensures { result ≡ opened_or frame.now opening kept }
 {
@@ -62,7 +62,7 @@ fn opened_or(frame: &FrameMeaning, opening: Option<u8>, kept: CurrentTarget) -> 
     }
 }
 
-// The candidate's target, or the aim if the candidate is closed.
+// Returns the candidate's target, or the best allowed target if the candidate is closed.
 fn target_of(offer: &FrameOffer<'_>, wish: Wish, candidate: CurrentTarget) -> Option<u8>
     ensures { result ≡ target_of wish offer.now.frame candidate }
 {
@@ -89,7 +89,7 @@ fn reference_verdict(frame: &FrameMeaning, fdiff: u16) -> Verdict
     }
 }
 
-/// Whether a frame of `packets` packets fits in a queue of `queued` packets.
+/// Returns whether a frame of `packets` packets fits in a queue that has `queued` packets.
 pub fn has_room(packets: u16, queued: u16) -> bool
     ensures { result ≡ has_room queued packets }
 {

@@ -1,4 +1,4 @@
--- However long a track goes on, its numbers stay below 2^46, so the next one is at most that.
+-- However long a track continues, its numbers stay below 2^46, so the next number is at most 2^46.
 use Rattle.std.proofs.Common.{◌≡◌, ℕ, ◌+◌, ◌-◌, ◌≤◌, ◌<◌, ◌^◌, max, ◌==◌, Bool, true, false, cond, nat_lt, nat_le, List, [], ◌∷◌, refl, arith}
 use Rattle.std.specs.Prelude.{ℤ, pos, negsuc, Option, None, Some, Result, Ok, Err}
 use Rattle.std.specs.List.{AllByRecursion}

@@ -1,4 +1,4 @@
--- A property of each packet that came is one of each packet that a run, or a frame, has.
+-- A property of all packets of the items is a property of all packets of a run or a frame.
 use Rattle.std.proofs.Common.{ℕ, Bool, true, false, cond, not, ◌&&◌, List, [], ◌∷◌, ◌++◌, map, Option, Some, None, sym, subst}
 use Rattle.std.specs.Prelude.{IfSome}
 use Rattle.std.specs.List.{AllByRecursion}

@@ -1,5 +1,5 @@
--- What a track counts at one more item, and that no count overflows.
-use Rattle.std.proofs.Common.{◌≡◌, ℕ, ◌+◌, ◌-◌, ◌*◌, ◌≤◌, ◌<◌, ◌^◌, Bool, true, false, List, [], ◌∷◌, ◌++◌, length, map, Option, Some, None, refl, sym, ap, ap₂, subst, ◌∙◌, arith, append_assoc, length-append}
+-- The counters of a track after one more item; and no counter overflows.
+use Rattle.std.proofs.Common.{◌≡◌, ℕ, ◌+◌, ◌-◌, ◌≤◌, ◌^◌, Bool, true, false, List, [], ◌∷◌, ◌++◌, length, Option, Some, None, refl, sym, ap, ap₂, subst, ◌∙◌, arith, append_assoc, length-append}
 use Rattle.std.proofs.lemmas.List.{length-map}
 use Rattle.std.specs.Prelude.{IfSome}
 use Rattle.std.specs.Option.{option_map}
@@ -107,7 +107,7 @@ frame_as worked (Gone from to) packets a n None sized = refl
 frame_as worked piece packets a n (Some l) sized =
     framed_as (frames_after (format_of l.id) (items_of worked)) a n packets (frame_by l.id worked piece) (λ frame is. sized l.id frame refl is)
 
--- the frame that the item completed has so many packets
+-- the number of packets of the frame that the item completed
 pub sized_as : (worked : List Piece) (piece : Piece) (new : Option Layers) (id : ℕ) (frame : Frame TemplateStructure) → option_map id_of new ≡ Some id
     → IfSome new (λ l. IsAfter l (item_of piece ∷ items_of worked)) → frame_by id worked piece ≡ Some frame → length (frame_in new) ≡ length frame.packets
 sized_as worked piece None id frame same after made = absurd (cc)
@@ -132,29 +132,46 @@ tally_more o worked piece i made packets tally is told sized was =
 
 -- ---- counts stay small
 
-record Grows (old new : Tally) (packets : ℕ) : Type 0 where
+record Grows (old new : Tally) : Type 0 where
   arrived : new.arrived ≤ old.arrived + 1
   frames : new.frames ≤ old.frames + 1
   key_frames : new.key_frames ≤ old.key_frames + 1
-  framed : new.framed ≤ old.framed + packets
 
 one_where : (b : Bool) (n : ℕ) → add_where b n ≤ n + 1
 one_where true n = omega arith
 one_where false n = omega arith
 
-grows : (made : Made) (i : OrderItem) (t : Tally) (packets : ℕ) → Grows t (counted_made made packets (counted_item i t)) packets
-grows made.Idle (item.Got n m) t packets = record { arrived = omega arith; frames = omega arith; key_frames = omega arith; framed = omega arith }
-grows made.Idle (item.Gone a b) t packets = record { arrived = omega arith; frames = omega arith; key_frames = omega arith; framed = omega arith }
-grows made.Nothing (item.Got n m) t packets = record { arrived = omega arith; frames = omega arith; key_frames = omega arith; framed = omega arith }
-grows made.Nothing (item.Gone a b) t packets = record { arrived = omega arith; frames = omega arith; key_frames = omega arith; framed = omega arith }
-grows made.Packet (item.Got n m) t packets = record { arrived = omega arith; frames = omega arith; key_frames = omega arith; framed = omega arith }
-grows made.Packet (item.Gone a b) t packets = record { arrived = omega arith; frames = omega arith; key_frames = omega arith; framed = omega arith }
+grows : (made : Made) (i : OrderItem) (t : Tally) (packets : ℕ) → Grows t (counted_made made packets (counted_item i t))
+grows made.Idle (item.Got n m) t packets = record { arrived = omega arith; frames = omega arith; key_frames = omega arith }
+grows made.Idle (item.Gone a b) t packets = record { arrived = omega arith; frames = omega arith; key_frames = omega arith }
+grows made.Nothing (item.Got n m) t packets = record { arrived = omega arith; frames = omega arith; key_frames = omega arith }
+grows made.Nothing (item.Gone a b) t packets = record { arrived = omega arith; frames = omega arith; key_frames = omega arith }
+grows made.Packet (item.Got n m) t packets = record { arrived = omega arith; frames = omega arith; key_frames = omega arith }
+grows made.Packet (item.Gone a b) t packets = record { arrived = omega arith; frames = omega arith; key_frames = omega arith }
 grows (made.Frame meaning) (item.Got n m) t packets =
-    record { arrived = omega arith; frames = omega arith; key_frames = one_where meaning.key t.key_frames; framed = omega arith }
+    record { arrived = omega arith; frames = omega arith; key_frames = one_where meaning.key t.key_frames }
 grows (made.Frame meaning) (item.Gone a b) t packets =
-    record { arrived = omega arith; frames = omega arith; key_frames = one_where meaning.key t.key_frames; framed = omega arith }
+    record { arrived = omega arith; frames = omega arith; key_frames = one_where meaning.key t.key_frames }
 
-pub small_more : (made : Made) (i : OrderItem) (t : Tally) (packets n : ℕ) → packets ≤ 512 → IsSmall t n
+-- a whole frame has at most 512 packets
+abbrev pub HasFew : Made → ℕ → Type 0
+HasFew made.Idle packets = Unit {0}
+HasFew made.Nothing packets = Unit {0}
+HasFew made.Packet packets = Unit {0}
+HasFew (made.Frame meaning) packets = packets ≤ 512
+
+framed_most : (made : Made) (i : OrderItem) (t : Tally) (packets : ℕ) → HasFew made packets
+    → (counted_made made packets (counted_item i t)).framed ≤ t.framed + 512
+framed_most made.Idle (item.Got n m) t packets few = omega arith
+framed_most made.Idle (item.Gone a b) t packets few = omega arith
+framed_most made.Nothing (item.Got n m) t packets few = omega arith
+framed_most made.Nothing (item.Gone a b) t packets few = omega arith
+framed_most made.Packet (item.Got n m) t packets few = omega arith
+framed_most made.Packet (item.Gone a b) t packets few = omega arith
+framed_most (made.Frame meaning) (item.Got n m) t packets few = omega (arith, few)
+framed_most (made.Frame meaning) (item.Gone a b) t packets few = omega (arith, few)
+
+pub small_more : (made : Made) (i : OrderItem) (t : Tally) (packets n : ℕ) → HasFew made packets → IsSmall t n
     → IsSmall (counted_made made packets (counted_item i t)) (n + 1)
 small_more made i t packets n few s =
     let g = grows made i t packets in
@@ -162,5 +179,5 @@ small_more made i t packets n few s =
       arrived = omega (arith, s.arrived, g.arrived);
       frames = omega (arith, s.frames, g.frames);
       key_frames = omega (arith, s.key_frames, g.key_frames);
-      framed = omega (arith, s.framed, g.framed, few);
+      framed = omega (arith, s.framed, framed_most made i t packets few);
     }

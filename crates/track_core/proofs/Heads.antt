@@ -1,4 +1,4 @@
--- What is stored of the first descriptor is that of the current run.
+-- The stored head is that of the current run's first descriptor.
 use Rattle.std.proofs.Common.{◌≡◌, ℕ, Bool, true, false, cond, List, [], ◌∷◌, ◌++◌, Option, Some, None, refl, sym, ap, subst, ◌∙◌}
 use Rattle.std.specs.Prelude.{IfSome, is_some}
 use Rattle.forwarding_model.specs.frames.Cuts.{Part, Mark, Run, begun, continued, extended, is_next}
@@ -24,7 +24,7 @@ ThePart = Part (ReadPacket TemplateStructure)
 abbrev pub TheRun : Type 0
 TheRun = Run (ReadPacket TemplateStructure)
 
--- a mark starts a frame where its part does
+-- a mark starts a frame exactly if its part does
 abbrev starts_frame : TheMark → Bool
 starts_frame Gone = false
 starts_frame Padding = false

@@ -1,4 +1,4 @@
--- Runs and outcomes are the same, whatever the parts carry.
+-- Runs and outcomes are the same, whatever data the parts carry.
 use Rattle.std.proofs.Common.{◌≡◌, ℕ, ◌+◌, Bool, true, false, cond, not, ◌&&◌, ◌==◌, List, [], ◌∷◌, ◌++◌, map, Option, Some, None, refl, sym, ap, ◌∙◌}
 use Rattle.std.specs.Prelude.{nat_lt}
 use Rattle.std.specs.Bool.{beq}
@@ -62,7 +62,7 @@ module _ {X Y : Type 0} (f : X → Y) where
   pub outcome_of_with : (marks : List (Mark X)) (mark : Mark X) → outcome (run_of (map (mark_with f) marks)) (mark_with f mark) ≡ outcome (run_of marks) mark
   outcome_of_with marks mark = ap (λ (run : Option (Run Y)). outcome run (mark_with f mark)) (run_of_with marks) ∙ outcome_with (run_of marks) mark
 
--- ---- what an outcome says of the run
+-- ---- what an outcome says about the run
 
 module _ {X : Type 0} where
   pub whole_cut : (run : Option (Run X)) (mark : Mark X) → outcome run mark ≡ IsWhole → (r : Run X) × (extended run mark ≡ Some r) × (cut_by run mark ≡ Some r)

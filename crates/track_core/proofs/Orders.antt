@@ -1,4 +1,4 @@
--- What a track stands for after an event, and after a step.
+-- What a track represents after an event, and after a step.
 use Rattle.std.proofs.Common.{◌≡◌, ℕ, ◌+◌, ◌-◌, ◌*◌, ◌≤◌, ◌<◌, ◌^◌, Bool, true, false, cond, ◌==◌, nat_lt, List, [], ◌∷◌, ◌++◌, length, drop, Option, Some, None, Result, Ok, Err, refl, sym, ap, subst, ◌∙◌, arith, append_assoc, append-nil, length-append}
 use Rattle.std.specs.Prelude.{IfSome, is_some, slice_get}
 use Rattle.std.specs.List.{AllByRecursion}
@@ -28,7 +28,7 @@ use Rattle.track_core.specs.Kept.{packets_in}
 use Rattle.track_core.proofs.Packets.{packets_there}
 use Rattle.track_core.specs.Track.{Seen, StandsFor, and_piece, first_refusal, frame_by, frame_in, frame_packets, gives, id_of, newest_after, newest_with, number_of, packets_of, plain_packets, is_got, made_by, made_frame, made_meaning, made_of, made_plain, order_refusal, read_refusal, refused, structure_after, structure_in}
 use Rattle.track_core.proofs.Bounds.{next_bounded}
-use Rattle.track_core.proofs.Counted.{gone_as, items_more, piece_fits, sized_as, small_more, tally_more}
+use Rattle.track_core.proofs.Counted.{HasFew, gone_as, items_more, piece_fits, sized_as, small_more, tally_more}
 use Rattle.track_core.proofs.TakenPieces.{all_behind, few_pieces, items_taken}
 
 -- ---- before the first event
@@ -172,7 +172,7 @@ module _ (t : Seen) (events : List Event) (worked : List Piece) (stands : Stands
   pub bound_step : IfSome t.layers (λ l. l.table.newest ≤ 2 ^ 63 - 131072)
   bound_step = some_room t.layers (length worked) room_step stands.numbers
 
-  -- what one more item counts fits
+  -- the counters have space for one more item
   pub arrived_step : t.tally.arrived < 2 ^ 63
   arrived_step = omega (arith, stands.small.arrived, room_step)
 
@@ -211,7 +211,7 @@ module _ (t : Seen) (events : List Event) (worked : List Piece) (stands : Stands
       → ((past : List Item) → IfSome t.layers (λ l. IsAfter l past) → IfSome new.layers (λ l. IsAfter l (item_by (is_got item) buffer ∷ past)))
       → option_map id_of new.layers ≡ option_map id_of t.layers
       → (made : Made) → made ≡ made_by t.layers (items_of worked) (is_got item) buffer → new.newest ≡ newest_with made t.newest
-      → (packets : ℕ) → packets ≡ length (frame_in new.layers) → packets ≤ 512 → new.tally ≡ counted_made made packets (counted_item item t.tally)
+      → (packets : ℕ) → packets ≡ length (frame_in new.layers) → HasFew made packets → new.tally ≡ counted_made made packets (counted_item item t.tally)
       → StandsFor new events (worked ++ f.piece ∷ [])
   step_stands new window near layers id made is newest packets count few tally =
       let rest : new.window.waiting ≡ f.rest = ap (λ (w : Window). w.waiting) window ∙ ap (drop 1) f.is in
@@ -283,7 +283,7 @@ plain_before None new same plain = refl
 plain_before (Some l) None same plain = absurd (cc)
 plain_before (Some l) (Some m) same plain = absurd (cc)
 
--- what else is in the buffer of a layered track is none of its packets
+-- other contents of the buffer of a layered track aren't among its packets
 pub packets_same : (old new : Option Layers) (buffer now : List ℕ) → option_map id_of new ≡ option_map id_of old → (old ≡ None → now ≡ buffer)
     → packets_in new now ≡ packets_in new buffer
 packets_same None None buffer now same plain = ap (λ (xs : List ℕ). xs ∷ []) (plain refl)

@@ -1,4 +1,4 @@
--- What a layered track stands for after one more packet.
+-- What a layered track represents after one more packet.
 use Rattle.std.proofs.Common.{◌≡◌, ℕ, Bool, true, false, cond, List, [], ◌∷◌, Option, Some, None, refl, sym, ap, ap₂, subst, ◌∙◌}
 use Rattle.std.specs.Prelude.{IfSome, is_some}
 use Rattle.std.specs.Option.{option_map}
@@ -20,7 +20,7 @@ use Rattle.track_core.specs.declared.layers.Layers.{Layers}
 use Rattle.track_core.specs.Layers.{HasHead, IsAfterAs, IsPushable, IsRunning, Looked, Pushed, force_of, framed_by, mark_of, marks_of, meaning_made, sent_marks}
 use Rattle.track_core.proofs.Heads.{TheMark, TheRun}
 
--- what an item makes, by its mark and what is in force then
+-- what an item makes, computed from its mark and what is in force after it
 pub made_of : (id : ℕ) (state : TrackState TemplateStructure) (item : Item)
     → made_by_item (format_of id) state item ≡ made_by (format_of id) (force_of id state.force item) state.run (mark_of id state.force.structure item)
 made_of id state Missing = refl

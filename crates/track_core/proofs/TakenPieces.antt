@@ -1,4 +1,4 @@
--- What came is what a track accepts, and so are the pieces of its order; and there are no more pieces than numbers.
+-- The packets of a track's events are packets that it accepts, and so are those of the pieces of its order. There are no more pieces than numbers.
 use Rattle.std.proofs.Common.{◌≡◌, ℕ, zero, suc, ◌+◌, ◌-◌, ◌≤◌, Bool, true, false, cond, nat_lt, nat_le, List, [], ◌∷◌, ◌++◌, length, refl, ap, arith, length-append}
 use Rattle.std.specs.Prelude.{Option, None, Some, Result, Ok, Err, filter}
 use Rattle.std.specs.List.{AllByRecursion}
@@ -139,7 +139,7 @@ pub numbers_few : (first : Option ℕ) (end : ℕ) → length (numbers_from firs
 numbers_few None end = omega arith
 numbers_few (Some first) end = omega (arith, length-counted first (end - first))
 
--- there are at most as many pieces as numbers below the next
+-- there are no more pieces than numbers below the next one
 pub few_pieces : (hold : ℕ) (events : List Event) → length (order_items hold events) ≤ (order_of hold events).next
 few_pieces hold events =
     let a = items_long hold events in

@@ -1,4 +1,4 @@
--- What is counted of a track since its publish. Own rules. The code adds to five counts at each item; the definitions count in the lists of all
+-- The counters of a track since its publish. Own rules. The code adds to five counters at each item. The definitions count in the lists of all
 -- pieces, of all items, and of all frames that the items made.
 use Rattle.std.specs.Prelude.{◌+◌, ◌-◌, ◌≤◌, ◌*◌, ℕ, Bool, true, false, if◌then◌else◌, List, [], ◌∷◌, Option, None, Some, is_some, length}
 use Rattle.dd_structure.specs.TemplateStructure.{TemplateStructure}
@@ -17,13 +17,13 @@ use Rattle.track_core.specs.Pieces.{items_of}
 
 -- ---- counts of lists
 
--- how many packets came
+-- how many packets are among the items
 abbrev pub arrived_in : List Item → ℕ
 arrived_in [] = 0
 arrived_in (Missing ∷ items) = arrived_in items
 arrived_in (Arrived packet ∷ items) = arrived_in items + 1
 
--- a count, and the numbers that one more piece gives up: from the first to the last, both included
+-- a count plus the number of sequence numbers that one more piece gives up, the first and the last included
 abbrev pub and_given_up : Piece → ℕ → ℕ
 and_given_up (Got h) n = n
 and_given_up (Gone from to) n = n + (to + 1 - from)
@@ -62,11 +62,11 @@ tally_of frames arrived given_up = record {
   framed = packets_in_frames frames;
 }
 
--- after these pieces (the oldest first)
+-- the counters after these pieces (the oldest first)
 abbrev pub tally_after : Option ℕ → List Piece → Tally
 tally_after id worked = tally_of (frames_on id (items_of worked)) (arrived_in (items_of worked)) (given_up_in worked)
 
--- what is reported: of a layered track also the packets that are in no whole frame
+-- the reported counters; for a layered track, they have the packets that are in no whole frame
 abbrev pub counts_by : Bool → Tally → TrackCounts
 counts_by layered tally = record {
   arrived = tally.arrived;
@@ -84,7 +84,7 @@ counts_after id worked = counts_by (is_some id) (tally_after id worked)
 abbrev pub no_tally : Tally
 no_tally = record { arrived = 0; given_up = 0; frames = 0; key_frames = 0; framed = 0 }
 
--- a count, and the numbers that one more item gives up
+-- a count plus the number of sequence numbers that one more item gives up
 abbrev pub and_gone : OrderItem → ℕ → ℕ
 and_gone (item.Got number moment) n = n
 and_gone (item.Gone from to) n = n + (to + 1 - from)
@@ -93,7 +93,7 @@ abbrev pub counted_item : OrderItem → Tally → Tally
 counted_item (item.Got number moment) t = record t { arrived = t.arrived + 1 }
 counted_item (item.Gone from to) t = record t { given_up = t.given_up + (to + 1 - from) }
 
--- with one more frame, a key frame or not, of this many packets
+-- the counters with one more frame, a key frame or not, that has this number of packets
 abbrev pub framed_once : Bool → ℕ → Tally → Tally
 framed_once key packets t = record t { frames = t.frames + 1; key_frames = add_where key t.key_frames; framed = t.framed + packets }
 
@@ -103,7 +103,7 @@ counted_made made.Nothing packets t = t
 counted_made made.Packet packets t = t
 counted_made (made.Frame meaning) packets t = framed_once meaning.key packets t
 
--- what n items can count at most
+-- the greatest counters that n items can lead to
 pub record IsSmall (tally : Tally) (n : ℕ) : Type 0 where
   pub arrived : tally.arrived ≤ n
   pub frames : tally.frames ≤ n

@@ -6,7 +6,7 @@ use Rattle.track_core.specs.declared.layers.Layers.{Layers}
 use Rattle.track_core.specs.Pieces.{IsTaken}
 use Rattle.track_core.specs.Track.{Seen, StandsFor}
 
--- the packets of what was made: a plain packet in the slot, or those of a whole frame
+-- the packets that were made: the plain packet in the slot, or those of a whole frame
 abbrev pub packets_in : Option Layers → List ℕ → List (List ℕ)
 packets_in None slot = slot ∷ []
 packets_in (Some l) slot = l.assembly.frame
@@ -28,7 +28,7 @@ pub record HasStood (track : Seen) : Type 0 where
   pub worked : List Piece
   pub stands : StandsFor track events worked
 
--- and if a plain packet was made, the slot has a packet that was accepted
+-- if a plain packet was made, the slot has an accepted packet
 pub record IsKept (t : Inside) : Type 0 where
   pub stood : HasStood (seen t)
   pub slot : t.given ≡ true → t.layers ≡ None → IsTaken t.slot.value

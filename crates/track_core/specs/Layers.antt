@@ -24,7 +24,7 @@ use Rattle.track_core.specs.Mapped.{mark_with}
 
 -- ---- marks
 
--- the mark of an item, by what is in force
+-- the mark of an item, with this structure in force
 abbrev pub mark_of : ℕ → Option TemplateStructure → Item → Mark (ReadPacket TemplateStructure)
 mark_of id force Missing = Gone
 mark_of id force (Arrived p) =
@@ -40,7 +40,7 @@ abbrev pub marks_of : ℕ → List Item → List (Mark (ReadPacket TemplateStruc
 marks_of id [] = []
 marks_of id (item ∷ past) = mark_of id (state_after (format_of id) past).force.structure item ∷ marks_of id past
 
--- what an assembly sees of the marks: each part with its packet's bytes
+-- the data of a part that an assembly sees: its packet's bytes
 abbrev pub sent_of : ReadPacket TemplateStructure → List ℕ
 sent_of read = bytes_of read.packet
 
@@ -86,7 +86,7 @@ meaning_made id past item = option_map meaning_of (made_by_item (format_of id) (
 
 -- ---- one packet
 
--- a part that starts a frame comes with the frame's first descriptor
+-- if the part starts a frame, the descriptor is the frame's first
 pub record HasFirst (force : Force TemplateStructure) (d : Descriptor) (part : Part (ReadPacket TemplateStructure)) : Type 0 where
   pub said : said_of force.structure d ≡ part.brings.descriptor
   pub first : IsFirst force d

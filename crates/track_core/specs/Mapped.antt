@@ -1,4 +1,4 @@
--- Marks, runs and parts that carry other things. No statement about cuts depends on what a part carries.
+-- Marks, runs and parts that carry data of another type. No statement about cuts depends on the data that a part carries.
 use Rattle.std.specs.Prelude.{map}
 use Rattle.forwarding_model.specs.frames.Cuts.{Part, Mark, Run}
 use Rattle.forwarding_model.specs.frames.Cuts.Mark.{Gone, Padding, Unreadable, Read}

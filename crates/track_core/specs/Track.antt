@@ -34,8 +34,8 @@ use Rattle.track_core.specs.declared.counts.Tally.{Tally}
 use Rattle.track_core.specs.Layers.{IsAfter, meaning_made}
 use Rattle.track_core.specs.Pieces.{IsTakenIn, item_by, item_of, items_of}
 
--- The SSRC, the reorder window with the pieces that wait, the state of a layered track, the packets that the last step made, the meaning and the
--- number of the last frame that was made, and what is counted.
+-- What contracts see: the SSRC, the reorder window with the waiting pieces, the state of a layered track, the packets that the last step made,
+-- the meaning and the number of the last frame that was made, and the counters.
 pub record Seen : Type 0 where
   pub ssrc : ℕ
   pub window : Window
@@ -56,7 +56,7 @@ abbrev pub newest_after : Option ℕ → List Piece → Option ℕ
 newest_after None worked = None
 newest_after (Some id) worked = option_map number_of (first_of (frames_after (format_of id) (items_of worked)))
 
--- The track represents these events (the newest first). These of its pieces (the oldest first) were processed.
+-- The track represents these events (the newest first), and the pieces `worked` (the oldest first) were processed.
 pub record StandsFor (track : Seen) (events : List Event) (worked : List Piece) : Type 0 where
   pub window : WindowAfter track.window events
   pub taken : AllByRecursion IsTakenIn events

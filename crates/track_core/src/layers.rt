@@ -1,4 +1,4 @@
-// The packets of a layered track, once they are in order.
+// Processes the packets of a layered track after they were put in order.
 
 ghost use Rattle.std.specs.Prelude.{◌≡◌, ◌≤◌, ◌<◌, ◌+◌, ◌-◌, ◌^◌, ◌∷◌, [], true, false, IfOk, IfSome, List, ℕ, is_some};
 ghost use Rattle.sfu_base.specs.Frame.{IsValid};
@@ -23,8 +23,8 @@ use rtp_packet::Rtp;
 use sfu_base::{Dti, FrameMeaning, NoMemory};
 use std::alloc::Global;
 
-/// The state of a layered track between two items: the header extension id (RFC 8285) of its descriptors, the table of what is in force, the
-/// frame under assembly, and what is kept of that frame's first descriptor. `newest` is scratch space for the parser.
+/// The state of a layered track between two items. `id` is the header extension id (RFC 8285) of the descriptors. `table` says what is in force.
+/// `assembly` has the frame under assembly, and `head` the head of that frame's first descriptor. `newest` is working memory of the parser.
 #[derive(Drop)]
 pub struct Layers {
     pub id: u8,
@@ -46,7 +46,8 @@ const NO_HEAD: FrameHead = FrameHead {
 };
 
 impl Layers {
-    /// A layered track before its first packet, whose descriptors have this header extension id. Allocates the memory for the frame under assembly.
+    /// A layered track before its first packet. Its descriptors have this header extension id. Allocates the memory for the frame under assembly,
+    /// or returns `NoMemory`.
     pub fn new(alloc: Global, id: u8) -> Result<Layers, NoMemory>
         ensures id { IfOk result (λ layers. layers.id ≡ id) }
         ensures stands { IfOk result (λ layers. IsAfter layers []) }
@@ -61,7 +62,7 @@ impl Layers {
         })
     }
 
-    /// Processes sequence numbers that were given up: the frame under assembly is torn, so it won't be whole.
+    /// Processes sequence numbers that were given up. The frame under assembly is torn, so it can't become complete.
     pub fn give_up(&mut self)
         ensures id { self.new.id ≡ self.old.id }
         ensures near { self.new.table.newest ≤ self.old.table.newest }
@@ -70,8 +71,8 @@ impl Layers {
         let _ = self.assembly.push(&Mark::Gone, &[]);
     }
 
-    /// Processes the next packet, which is in `slot`. The assembly may keep that slot and leave another in its place.
-    /// Returns whether the packet completed a frame; if so, the frame's meaning is written to `meaning`.
+    /// Processes the next packet, which is in `slot`. The assembly may keep that slot and leave another one in its place. If the packet
+    /// completes a frame, returns true and writes the frame's meaning to `meaning`.
     pub fn take(&mut self, slot: &mut Box<PacketSlot>, meaning: &mut FrameMeaning) -> bool
         requires taken { IsTaken slot.old.value }
         requires stood { HasStood self.old }
@@ -87,7 +88,7 @@ impl Layers {
         self.push(&mark, slot, meaning)
     }
 
-    // Returns the mark of an accepted packet: what the packet is to the frame under assembly.
+    // Returns the mark of an accepted packet, the input for the assembly of frames.
     fn read(&mut self, slot: &Box<PacketSlot>) -> Mark
         requires taken { IsTaken slot.now.value }
         requires bound { self.old.table.newest ≤ 2 ^ 63 - 131072 }
@@ -100,12 +101,12 @@ impl Layers {
         let bytes = slot.bytes();
         match rtp_packet::read(bytes) {
             Ok(packet) => self.look(&packet, bytes),
-            // Can't be: the packet was accepted, so it is valid RTP.
+            // This can't happen, because the packet was accepted and so is valid RTP.
             Err(_) => Mark::Unread,
         }
     }
 
-    // Returns the mark of a packet. A descriptor that can be read also changes what is in force.
+    // Returns the mark of a packet. If the descriptor can be read, the table of what is in force is updated.
     fn look(&mut self, packet: &Rtp<'_>, bytes: &[u8]) -> Mark
         requires packet { IsOf bytes.now packet.now }
         requires bound { self.old.table.newest ≤ 2 ^ 63 - 131072 }
@@ -141,7 +142,7 @@ impl Layers {
         }
     }
 
-    // Pushes a packet with its mark onto the frame under assembly. Returns whether that completed a frame.
+    // Pushes a packet with its mark onto the frame under assembly. Returns whether the packet completed a frame.
     fn push(&mut self, mark: &Mark, slot: &mut Box<PacketSlot>, meaning: &mut FrameMeaning) -> bool
         requires bound { self.old.table.newest < 2 ^ 63 }
         requires pushable { IsPushable self.old mark.now slot.old.value }
@@ -171,8 +172,8 @@ fn keep_head(mark: &Mark, table: &FrameTable, newest: &Descriptor, head: &mut Fr
     }
 }
 
-/// Processes one item of a layered track: if `came`, the packet in `slot`, else sequence numbers that were given up. Returns whether the item
-/// completed a frame; if so, the frame's meaning is written to `meaning`.
+/// Processes one item of a layered track. If `came` is true, the item is the packet in `slot`; otherwise it is sequence numbers that were given
+/// up. If the item completes a frame, returns true and writes the frame's meaning to `meaning`.
 pub fn work_off(
     layers: &mut Layers,
     came: bool,

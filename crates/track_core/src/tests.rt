@@ -1,5 +1,4 @@
-// Tests of a track by rows of text: the lines of a row are processed one by one, and each ends with the expected result of its arrival or
-// of its tick.
+// Tests of a track by rows of text. The lines of a row are processed one by one, and each line ends with the expected result.
 mod real;
 mod rows;
 mod text;
@@ -17,13 +16,13 @@ use text::{cut, frame_words, hex, number, put, say};
 
 const SSRC: u32 = 0x11111111;
 
-// A key descriptor of one target, in whose structure template 1 has distance 1 and link 1.
+// A key descriptor with one target. In its structure, template 1 has distance 1 and link 1.
 const KEY: [u8; 9] = [0xc0, 0x00, 0x01, 0x80, 0x00, 0x3a, 0x41, 0x01, 0x00];
 
-// One OBU element, the whole of which is in the packet.
+// A payload with one OBU element, which is complete in the packet.
 const PAYLOAD: [u8; 3] = [0x10, 0x30, 0x00];
 
-// A packet with one header extension element, the descriptor under id 4: in the one-byte form if the descriptor fits that, else the two-byte.
+// A packet with one header extension element: the descriptor, with id 4. The element has the one-byte form if the descriptor fits, otherwise the two-byte form.
 fn packet(seq: u16, descriptor: &[u8], payload: &[u8]) -> PacketBuf {
     let mut out = PacketBuf::new();
     put(&mut out, &[0x90, 0x60]);
@@ -46,7 +45,7 @@ fn packet(seq: u16, descriptor: &[u8], payload: &[u8]) -> PacketBuf {
     out
 }
 
-// Writes the sequence numbers of what the last step made.
+// Writes the sequence numbers of the packets that the last step made.
 fn say_packets(
     rt: &impl Abort,
     alloc: Global,
@@ -63,7 +62,7 @@ fn say_packets(
     Ok(())
 }
 
-// Processes all waiting items, and returns what they made.
+// Processes all waiting items, and returns their results as text.
 fn drain(rt: &impl Abort, alloc: Global, track: &mut Track) -> Result<String, Fail>
     ensures { IfOk result (λ said. track.new.window.waiting ≡ []) }
 {
@@ -86,7 +85,7 @@ fn drain(rt: &impl Abort, alloc: Global, track: &mut Track) -> Result<String, Fa
     }
 }
 
-// Brings the track a packet, and returns its refusal, or what it made.
+// Hands a packet to the track. Returns the refusal, or the results of all waiting items, as text.
 fn arrive(
     rt: &impl Abort,
     alloc: Global,
@@ -104,7 +103,7 @@ fn arrive(
     }
 }
 
-// Processes a line, and returns what it made.
+// Processes a line, and returns its result.
 fn work_off(rt: &impl Abort, alloc: Global, track: &mut Track, line: &[u8]) -> Result<String, Fail>
     requires { track.old.window.waiting ≡ [] }
     ensures { IfOk result (λ said. track.new.window.waiting ≡ []) }
@@ -177,7 +176,7 @@ fn rows_make_what_the_rules_say(rt: HostRuntime) -> Result<(), Fail> {
     Ok(())
 }
 
-// Sends a key frame and then a frame of `count` packets, and returns what the last packet made.
+// Sends a key frame and then a frame of `count` packets. Returns the result of the last packet.
 fn frame_of(rt: &impl Abort, alloc: Global, count: u16) -> Result<String, Fail> {
     let mut track = Track::new(alloc, Kind::Layered { id: 4 }, SSRC, 0)?;
     let key = packet(0, &KEY, &PAYLOAD);
@@ -229,8 +228,8 @@ fn edge(descriptor: &PacketBuf, bit: u8) -> PacketBuf {
     out
 }
 
-// Makes the descriptors of a key frame and of the frame with the descriptor `own`, which may be the same frame. Adds packets so that each
-// frame is whole. Returns the descriptors, and the index at which the frame with `own` begins.
+// Makes the descriptors of a key frame and of the frame with the descriptor `own`, which may be the same frame. Adds descriptors so that each
+// frame is complete. Returns the descriptors, and the index at which the frame with `own` begins.
 fn frames_with(
     alloc: Global,
     key: &PacketBuf,
@@ -255,7 +254,7 @@ fn frames_with(
     Ok((all, first))
 }
 
-// Returns what the last of the packets with these descriptors makes on a new track.
+// Sends packets with these descriptors to a new track, and returns the result of the last one.
 fn made_of(rt: &impl Abort, alloc: Global, descriptors: &[PacketBuf]) -> Result<String, Fail> {
     let mut track = Track::new(alloc, Kind::Layered { id: 4 }, SSRC, 0)?;
     let mut said = String::new(alloc);

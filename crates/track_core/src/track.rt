@@ -1,4 +1,4 @@
-// One publisher's pipeline.
+// The pipeline of one publisher's track.
 
 ghost use Rattle.std.specs.Prelude.{◌≡◌, ◌≤◌, ◌<◌, ◌-◌, ◌^◌, ◌+◌, ◌∷◌, ◌↔◌, [], ℕ, true, IfOk, IfSome, IsOk, List, None, Some, OnErr, drop, length, map, option_copied, slice_get};
 ghost use Rattle.reorder_window.specs.Due.{due_of};
@@ -7,7 +7,7 @@ ghost use Rattle.reorder_window.specs.Missing.{missing_sequences};
 ghost use Rattle.rtp_packet.specs.Faults.{first_fault};
 ghost use Rattle.rtp_packet.specs.Fields.{sequence_of};
 ghost use Rattle.packet_format.specs.Packets.{packet_of};
-ghost use Rattle.track_core.specs.Counts.{counts_after};
+ghost use Rattle.track_core.specs.Counts.{and_gone, counted_item, counted_made, counts_after};
 ghost use Rattle.track_core.specs.Track.{HasKind, IsMadeValid, StandsFor, Stays, and_piece, first_refusal, frame_in, frames_packets, has_given, id_of, is_got, made_by, made_of, newest_after, newest_with, packets_of, refusal_of, refused, structure_after, structure_in, with_meaning};
 ghost use Rattle.track_core.specs.Layers.{HasStood, IsAfter};
 ghost use Rattle.track_core.specs.Pieces.{IsTaken, item_by};
@@ -30,45 +30,45 @@ use std::marker::Model;
 pub enum Made {
     /// No item waits.
     Idle,
-    /// Neither a packet nor a frame.
+    /// The item made neither a packet nor a frame.
     Nothing,
-    /// A packet of a plain track.
+    /// The item made a packet of a plain track.
     Packet,
-    /// A whole frame of a layered track.
+    /// The item made a complete frame of a layered track.
     Frame(FrameMeaning),
 }
 
-/// What one item made. A frame's meaning is kept by the track.
+/// What one item made. The track keeps the meaning of a frame.
 #[derive(Clone, Copy, Debug)]
 pub enum Advance {
     /// No item waits.
     Idle,
-    /// Neither a packet nor a frame.
+    /// The item made neither a packet nor a frame.
     Nothing,
-    /// A packet of a plain track.
+    /// The item made a packet of a plain track.
     Packet,
-    /// A whole frame of a layered track, whose meaning [`Track::meaning`] returns.
+    /// The item made a complete frame of a layered track. [`Track::meaning`] returns its meaning.
     Frame,
 }
 
-/// One publisher's packets, from their arrival to plain packets or whole frames. Clauses see the SSRC, the reorder window with the items that
-/// wait, the state of a layered track, the packets that the last step made, the meaning and number of the last frame
-/// made, and what is counted.
+/// The packets of one publisher's track, from their arrival to plain packets or complete frames. Contracts see the SSRC, the reorder window
+/// with its waiting items, and the state of a layered track. Contracts also see the packets that the last step made, the meaning and number of
+/// the last frame made, and the counters.
 #[derive(Drop)]
 pub struct Track {
     ssrc: u32,
     window: Window,
-    // The slot with the packet that is being processed, which came from the window. On a layered track the frame under assembly may take it and
-    // leave another.
+    // The slot with the packet that is being processed, which came from the window. On a layered track, the frame under assembly may take this
+    // slot and leave another one.
     slot: Box<PacketSlot>,
     layers: Option<Layers>,
     // Whether the last step made a packet or a frame.
     given: bool,
-    // The meaning of the last frame made. It is written in place, since it has about 260 bytes.
+    // The meaning of the last frame made. A meaning has about 260 bytes, so it is written in place.
     meaning: FrameMeaning,
     // The number of the last frame made.
     newest: Option<u64>,
-    // What is counted since the publish.
+    // The counters since the publish.
     tally: Tally,
 }
 
@@ -85,8 +85,8 @@ impl Model for Track {
 }
 
 impl Track {
-    /// A track before its first packet. A packet behind a gap is held until the gap is filled, or is given up after `hold` milliseconds. All
-    /// memory of the track is allocated here. `NoMemory`: out of memory.
+    /// A track before its first packet. A packet behind a gap is buffered until the gap is filled or is given up. A gap is given up after
+    /// `hold` milliseconds. Returns `NoMemory` if memory runs out. No later call allocates memory.
     pub fn new(alloc: Global, kind: Kind, ssrc: u32, hold: u32) -> Result<Track, NoMemory>
         ensures stands { IfOk result (λ track. StandsFor track [] []) }
         ensures ssrc { IfOk result (λ track. track.ssrc ≡ ssrc) }
@@ -113,8 +113,9 @@ impl Track {
     }
 
     /// Accepts a packet that arrives at `moment`, in milliseconds. First call [`Track::advance`] until it returns `Idle`. The packets of the last
-    /// step stay readable. A refused packet changes nothing; the error is the first that applies. `TooBig`: more than 1,500 bytes. `Unreadable`:
-    /// not RTP. `WrongSsrc`: another SSRC than the track's. `Spent`, `Late`, `Repeat`: the unwrapped number is 2^46 or more, passed, or buffered.
+    /// step stay readable. A refused packet changes nothing, and the error is the first that applies. `TooBig`: more than 1,500 bytes.
+    /// `Unreadable`: not RTP. `WrongSsrc`: the SSRC isn't the track's. `Spent`: the unwrapped number is 2^46 or more. `Late`: the number is below
+    /// the next one. `Repeat`: a packet with this number is buffered already.
     pub fn arrive(&mut self, moment: u64, bytes: &[u8]) -> Result<(), Refusal>
         requires idle { self.old.window.waiting ≡ [] }
         requires length { length bytes.now ≤ 4294967295 }
@@ -146,8 +147,8 @@ impl Track {
         }
     }
 
-    /// Advances the time to `moment`, in milliseconds. First call [`Track::advance`] until it returns `Idle`. The packets of the last step stay
-    /// readable.
+    /// Advances the track's time to `moment`, in milliseconds, and gives up the gaps that are due. First call [`Track::advance`] until it
+    /// returns `Idle`. The packets of the last step stay readable.
     pub fn tick(&mut self, moment: u64)
         requires idle { self.old.window.waiting ≡ [] }
         ensures stands { (events : List Event) (worked : List Piece) → StandsFor self.old events worked → StandsFor self.new (Ticks moment ∷ events) worked }
@@ -157,8 +158,8 @@ impl Track {
         self.window.tick(moment);
     }
 
-    /// Returns the least moment, in milliseconds, at which a tick gives up a gap: the moment of the lowest held packet plus the hold. `None`
-    /// if no packet is held, or if the sum is 2^64 or more.
+    /// Returns the earliest moment, in milliseconds, at which a tick gives up a gap. This earliest moment is that of the buffered packet with
+    /// the lowest number, plus the hold time. `None` if no packet is buffered, or if the sum is 2^64 or more.
     pub fn due(&self) -> Option<u64>
         ensures { result ≡ due_of self.now.window.hold self.now.window.order }
     {
@@ -172,8 +173,8 @@ impl Track {
         self.window.missing(out);
     }
 
-    /// The template structure in force on a layered track after the items processed so far: none before the first key start, and none on a
-    /// plain track.
+    /// The template structure in force on a layered track after the items processed so far. `None` before the first key start, and on a plain
+    /// track.
     pub fn force(&self) -> Option<&Structure>
         ensures kept { option_copied result ≡ structure_in self.now.layers }
         ensures stands { (events : List Event) (worked : List Piece) → StandsFor self.now events worked
@@ -182,7 +183,7 @@ impl Track {
         structure_of(&self.layers)
     }
 
-    /// The id of the header extension element (RFC 8285) with the track's dependency descriptors: `None` on a plain track.
+    /// The id of the header extension element (RFC 8285) with the dependency descriptors of a layered track, or `None` on a plain track.
     pub fn id(&self) -> Option<u8>
         ensures { result ≡ option_map id_of self.now.layers }
     {
@@ -218,14 +219,19 @@ impl Track {
             &mut self.slot,
             &mut self.meaning,
         );
-        self.newest = newest_with(made, &self.meaning, self.newest);
-        let packets = frame_count(&self.layers);
-        self.tally.add(&item, made, &self.meaning, packets);
+        note(
+            &item,
+            made,
+            &self.meaning,
+            &self.layers,
+            &mut self.newest,
+            &mut self.tally,
+        );
         self.given = is_given(made);
         made
     }
 
-    /// Processes one item as [`Track::advance`] does, and returns a frame with a copy of its meaning.
+    /// Processes one item like [`Track::advance`], and returns a frame together with a copy of its meaning.
     pub fn step(&mut self) -> Made
         ensures rest { self.new.window ≡ record self.old.window { waiting = drop 1 self.old.window.waiting } }
         ensures idle { (result ≡ Made.Idle) ↔ (self.old.window.waiting ≡ []) }
@@ -245,7 +251,7 @@ impl Track {
         with_meaning(advance, self.meaning())
     }
 
-    /// Returns the number of the newest frame made: `None` before the first frame, and on a plain track.
+    /// Returns the number of the newest frame made, or `None` before the first frame and on a plain track.
     pub fn newest_frame(&self) -> Option<u64>
         ensures { (events : List Event) (worked : List Piece) → StandsFor self.now events worked
             → result ≡ newest_after (option_map id_of self.now.layers) worked }
@@ -253,8 +259,8 @@ impl Track {
         self.newest
     }
 
-    /// Returns what is counted of the items processed since the track began: the packets that came, the numbers that were given up, the frames made
-    /// whole, the key frames among them, and the packets that are in no whole frame.
+    /// Returns the counters over all items processed since the track began. There are counters of packets, of sequence numbers that were given
+    /// up, of complete frames, of key frames, and of packets in no complete frame.
     pub fn counts(&self) -> TrackCounts
         ensures { (events : List Event) (worked : List Piece) → StandsFor self.now events worked
             → result ≡ counts_after (option_map id_of self.now.layers) worked }
@@ -262,14 +268,14 @@ impl Track {
         self.tally.counts(self.layers.is_some())
     }
 
-    /// The meaning of the last frame made; before the first frame a placeholder.
+    /// The meaning of the last frame made. Before the first frame it is a placeholder.
     pub fn meaning(&self) -> &FrameMeaning
         ensures { result.now ≡ self.now.meaning }
     {
         &self.meaning
     }
 
-    /// How many packets the last step made: for a plain packet 1, for a frame the number of its packets (at most 512), else 0.
+    /// How many packets the last step made: 1 for a plain packet, the number of its packets (at most 512) for a frame, and otherwise 0.
     pub fn count(&self) -> u16
         ensures count { result ≡ length self.now.packets }
         ensures few { length self.now.packets ≤ 512 }
@@ -283,7 +289,7 @@ impl Track {
         }
     }
 
-    /// The bytes of one of the packets that the last step made, which `place` counts from 0: an RTP packet of at most 1,500 bytes.
+    /// The bytes of the packet at `place`, counted from 0, among the packets that the last step made. It is an RTP packet of at most 1,500 bytes.
     pub fn packet(&self, place: u16) -> &[u8]
         requires { place < length self.now.packets }
         ensures at { slice_get self.now.packets place ≡ Some result.now }
@@ -294,7 +300,7 @@ impl Track {
         self.packet_at(place)
     }
 
-    // A lemma, which does nothing: each packet that the last step made was accepted.
+    // A lemma, which does nothing at run time: each packet that the last step made was accepted.
     fn lemma_are_taken(&self)
         ensures { AllByRecursion IsTaken self.now.packets }
     {
@@ -312,7 +318,7 @@ impl Track {
     }
 }
 
-// The state of a layered track before its first item; `None` for a plain track.
+// The state of a layered track before its first item, or `None` for a plain track.
 fn layers_of(alloc: Global, kind: Kind) -> Result<Option<Layers>, NoMemory>
     ensures stands { IfOk result (λ o. IfSome o (λ l. IsAfter l [])) }
     ensures newest { IfOk result (λ o. IfSome o (λ l. l.table.newest ≡ 0)) }
@@ -334,7 +340,7 @@ fn structure_of(layers: &Option<Layers>) -> Option<&Structure>
     }
 }
 
-// Adds a frame's meaning, which the track keeps, to what an item made.
+// Combines the result of an item with the frame's meaning that the track keeps.
 fn with_meaning(advance: Advance, meaning: &FrameMeaning) -> Made
     ensures { result ≡ with_meaning meaning.now advance }
 {
@@ -346,7 +352,8 @@ fn with_meaning(advance: Advance, meaning: &FrameMeaning) -> Made
     }
 }
 
-// Processes one item: if `came`, the packet in `slot`, else sequence numbers that were given up. On a plain track the packet stays in the slot.
+// Processes one item. If `came` is true, the item is the packet in `slot`; otherwise it is sequence numbers that were given up. On a plain
+// track the packet stays in the slot.
 fn worked(
     layers: &mut Option<Layers>,
     came: bool,
@@ -383,17 +390,34 @@ fn worked(
     }
 }
 
-// Returns the number of the newest frame after a step that made this.
-fn newest_with(made: Advance, meaning: &FrameMeaning, newest: Option<u64>) -> Option<u64>
-    ensures { result ≡ newest_with (with_meaning meaning.now made) newest }
+// Counts an item. If the item completed a frame, counts the frame too and stores its number as the newest.
+#[inline(always)]
+fn note(
+    item: &OrderItem,
+    made: Advance,
+    meaning: &FrameMeaning,
+    layers: &Option<Layers>,
+    newest: &mut Option<u64>,
+    tally: &mut Tally,
+)
+    requires arrived { tally.old.arrived < 2 ^ 63 }
+    requires given_up { and_gone item.now tally.old.given_up < 2 ^ 63 }
+    requires frames { tally.old.frames < 2 ^ 63 }
+    requires key_frames { tally.old.key_frames < 2 ^ 63 }
+    requires framed { tally.old.framed < 2 ^ 63 }
+    ensures newest { newest.new ≡ newest_with (with_meaning meaning.now made) newest.old }
+    ensures tally { tally.new ≡ counted_made (with_meaning meaning.now made) (length (frame_in layers.now)) (counted_item item.now tally.old) }
+    ensures few { made ≡ Advance.Frame → length (frame_in layers.now) ≤ 512 }
 {
-    match made {
-        Advance::Frame => Some(meaning.number),
-        Advance::Idle | Advance::Nothing | Advance::Packet => newest,
+    tally.add_item(item);
+    if let Advance::Frame = made {
+        *newest = Some(meaning.number);
+        tally.add_frame(meaning.key, frame_count(layers));
     }
 }
 
-// How many packets the frame has that the last item completed; 0 if it completed none.
+// How many packets are in the frame that the last item completed, or 0 if it completed none.
+#[inline(always)]
 fn frame_count(layers: &Option<Layers>) -> u16
     ensures count { result ≡ length (frame_in layers.now) }
     ensures few { result ≤ 512 }
@@ -404,6 +428,7 @@ fn frame_count(layers: &Option<Layers>) -> u16
     }
 }
 
+#[inline(always)]
 fn is_given(made: Advance) -> bool
     ensures { result ≡ has_given made }
 {
@@ -413,6 +438,7 @@ fn is_given(made: Advance) -> bool
     }
 }
 
+#[inline(always)]
 fn is_packet(item: &OrderItem) -> bool
     ensures { result ≡ is_got item.now }
 {

@@ -1,4 +1,4 @@
--- Each step keeps the rule.
+-- Each step preserves the rule.
 use Rattle.std.proofs.Common.{◌≡◌, ◌≢◌, ℕ, suc, ◌+◌, ◌-◌, ◌%◌, ◌^◌, ◌<◌, ◌≤◌, Bool, true, false, cond, eqb, ltb, List, [], ◌∷◌, ◌++◌, length, drop, set, slice_index, Some, Option, refl, ap, sym, subst, ◌∙◌, ⊎_elim, arith, append-nil, length-append, length-set, mod-eq_of_lt, ltb-true, ltb-false, eq-eqb, ne_eqb}
 use mathlib.Core.List.{IsPrefix}
 use mathlib.Core.Logic.{dite}
@@ -60,7 +60,7 @@ module _ {S C : Type 0} (stands : S → List (Entry C) → Type 0) (first : ℕ)
   next_word : (s : St) (r : Rule s) → slice_index s.words 0 ≡ first + length r.log + length r.queue
   next_word s r = ap (λ ws. slice_index ws 0) r.words
 
-  -- a joined seat is not a live one
+  -- a joined seat isn't a live one
   apart : (s : St) (r : Rule s) (id : ℕ) (v : V) → get_elem? s.views id ≡ some v → IsLive v.stage → (u : V) (i : ℕ) (x : Joined C) → get_elem? s.views 0 ≡ some u → get_elem? u.joined i ≡ some x → x.number ≢ id
   apart s r id v at alive u i x e f is = let g = r.gone u i x e f in
       let same : g.0 ≡ v = some-injective g.0 v (sym g.1 ∙ (ap (λ (n : ℕ). get_elem? s.views n) is ∙ at)) in
@@ -74,7 +74,7 @@ module _ {S C : Type 0} (stands : S → List (Entry C) → Type 0) (first : ℕ)
       → (u : V) → get_elem? s.views 0 ≡ some u → AllJoined log' u.joined
   grown s r id v log' es grow at alive mine u e = joined_also r.log log' u.joined (λ i x f pos own. ap (own_of x.number) grow ∙ own_same x.number r.log es x.own own (mine x.number (apart s r id v at alive u i x e f))) (r.joined u e)
 
-  -- A live seat moves from the view v to the view w, and the history grows by its own entries es
+  -- A live seat moves from the view v to the view w, and the history grows by the seat's own entries es.
   moves : (s : St) (r : Rule s) (ws : List ℕ) (hs : List (Maybe (Option S))) (id : ℕ) (v w : V) (log' es : List (Entry C)) (queue : List ℕ) (slot : Maybe (Option S))
       → get_elem? s.views id ≡ some v → IsLive v.stage → IsLive w.stage
       → log' ≡ r.log ++ es → w.number ≡ v.number → w.joined ≡ v.joined
@@ -135,7 +135,7 @@ module _ {S C : Type 0} (stands : S → List (Entry C) → Type 0) (first : ℕ)
       (h.0, h.1, set_else vs id h.0 w (λ e. free (ap (λ (z : V). z.stage) (some-injective v h.1 (sym at ∙ (ap (λ (n : ℕ). get_elem? vs n) (sym e) ∙ h.2))) ∙ h.3)) ∙ h.2, h.3)
   home_stays vs serve log id v w (some y) at free h = h
 
-  -- some live seat has seen everything, also after one moves to a view that has seen as much
+  -- some live seat has seen everything, even after one seat moves to a view that has seen as much
   whole_stays : (vs : List V) (log : List (Entry C)) (id : ℕ) (v w : V) → get_elem? vs id ≡ some v → IsLive w.stage → w.seen ≡ v.seen
       → ((j : ℕ) × (u : V) × (get_elem? vs j ≡ some u) × IsLive u.stage × (u.seen ≡ log))
       → ((j : ℕ) × (u : V) × (get_elem? (set vs id w) j ≡ some u) × IsLive u.stage × (u.seen ≡ log))
@@ -333,7 +333,7 @@ module _ {S C : Type 0} (stands : S → List (Entry C) → Type 0) (first : ℕ)
         (refl, sound_of s r id v v at alive refl refl refl k.own_seen k.seen refl (λ z. r.joined_seen v (at_root s r id v at alive z)), (r.log, k.seen, k.beside)),
       )
 
-  -- after the front of the queue was served, each other seat is one place nearer
+  -- after the seat at the front of the queue was served, each other seat is one place nearer
   queues_shift : (serve next : ℕ) (log log' : List (Entry C)) (queue : List ℕ) (id j : ℕ) (seen : List (Entry C)) → next ≡ serve + 1 → get_elem? queue 0 ≡ some id → j ≢ id → (st : Stage) → Queues serve log queue j seen st → Queues next log' (drop 1 queue) j seen st
   queues_shift serve next log log' queue id j seen up front ne Idle q = tt
   queues_shift serve next log log' queue id j seen up front ne (Waiting t) q =
@@ -483,7 +483,7 @@ module _ {S C : Type 0} (stands : S → List (Entry C) → Type 0) (first : ℕ)
   longer_both true xs ys zs e p q = let le : length xs < length ys = ltb-true _ _ e in (prefix_shorter xs ys zs p q (omega arith), prefix_self ys)
   longer_both false xs ys zs e p q = let le : length ys ≤ length xs = ltb-false _ _ e in (prefix_self xs, prefix_shorter ys xs zs q p le)
 
-  -- a prefix that begins with all is all
+  -- a prefix that begins with the whole list is the whole list
   longest : (xs ys zs : List (Entry C)) → IsPrefix xs ys → IsPrefix ys zs → xs ≡ zs → ys ≡ zs
   longest xs ys zs p q e = prefix_whole ys zs q (let le : length xs ≤ length ys = prefix_length xs ys p in omega (arith, ap length e))
 
@@ -585,7 +585,7 @@ module _ {S C : Type 0} (stands : S → List (Entry C) → Type 0) (first : ℕ)
     gone = λ u i x e f. absurd (some-ne-none x (sym (ap (λ (z : V). get_elem? z.joined i) (some-injective (first_seat first) u e) ∙ f)));
   }
 
-  -- if each other seat was joined, the value is in the slot and represents what the first seat saw
+  -- if each other seat was joined, the value is in the slot and represents what the first seat has seen
   pub closes : (id : ℕ) (v : V) (ws : List ℕ) (xs : List (Option S)) → v.number ≡ 0 → v.stage ≡ Idle → ((n : ℕ) → 0 < n → n < v.count → (i : ℕ) × (x : Joined C) × (get_elem? v.joined i ≡ some x) × (x.number ≡ n))
       → Final (Seen Rule id v) ws xs → (x : S) × (get_elem? xs 0 ≡ some (Some x)) × stands x v.seen × (v.found ≤ v.base + length v.seen)
   closes id v ws xs first_one idle all end =

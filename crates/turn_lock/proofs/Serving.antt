@@ -1,4 +1,4 @@
--- Between the look and the serve step a seat moves the value out of the slot and back into it.
+-- Between reading the served ticket and the serve step, a seat moves the value out of the slot and back into it.
 use Rattle.std.proofs.Common.{◌≡◌, ℕ, List, [], ◌∷◌, Some, None, Option, ap, sym, ◌∙◌}
 use Rattle.atomic_table.specs.Table.{Me, rest}
 use Rattle.turn_lock.specs.declared.view.View.{View}

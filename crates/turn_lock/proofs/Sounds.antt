@@ -1,4 +1,4 @@
--- What a seat has seen fits together after each step.
+-- The parts of a seat's view agree with each other after each step.
 use Rattle.std.proofs.Common.{◌≡◌, ℕ, ◌+◌, ◌<◌, ◌≤◌, ◌^◌, Bool, true, false, cond, ltb, List, [], ◌∷◌, ◌++◌, length, refl, ap, sym, subst, ◌∙◌, arith, ltb-true, ltb-false, length-append}
 use mathlib.Core.List.{IsPrefix}
 use Rattle.turn_lock.specs.declared.history.Entry.{Entry}
@@ -40,7 +40,7 @@ module _ {C : Type 0} where
   both true xs ys h e p q = let le : length xs < length ys = ltb-true _ _ e in (prefix_shorter xs ys h q p (omega arith), prefix_self ys)
   both false xs ys h e p q = let le : length ys ≤ length xs = ltb-false _ _ e in (prefix_self xs, prefix_shorter ys xs h q p le)
 
-  -- what each of two seats had seen is a prefix of what the first has seen after the join
+  -- the prefix that each of two seats had seen is a prefix of the list that the first has seen after the join
   pub both_begin : (v w u : View C) → u ≡ joining v w → ((h : List (Entry C)) × IsPrefix u.seen h × IsPrefix u.beside h) → IsPrefix v.seen u.seen × IsPrefix w.seen u.seen
   both_begin v w u e t = let s = subst (λ (z : View C). (h : List (Entry C)) × IsPrefix z.seen h × IsPrefix z.beside h) e t in
       subst (λ (z : View C). IsPrefix v.seen z.seen × IsPrefix w.seen z.seen) (sym e) (both (ltb (length v.seen) (length w.seen)) v.seen w.seen s.0 refl s.1 s.2)
@@ -49,7 +49,7 @@ module _ {C : Type 0} where
   pub fits : (z : TableId) (v : View C) → Sound v → Fits (known z v)
   fits z v s = record { own = s.own; found = s.found; below = s.below; joined = s.joined }
 
-  -- the four steps of a turn, in the words of its contract
+  -- the four steps of a turn, in the terms of its contract
   pub turned : (z z' : TableId) (v0 v1 v2 v3 : View C) (e : Entry C) (t place : ℕ) (P : List (Entry C) → Type 0) → z' ≡ z → v1 ≡ finding v0 v1.found (Waiting t) → v0.found ≤ v1.found → t ≤ v1.found
       → ((h : List (Entry C)) × IsPrefix v1.seen h × (v2 ≡ seeing v1 h (Holding t))) → place ≡ v2.base + length v2.seen → v2.base + length v2.seen ≡ t → v3 ≡ serving v2 (e ∷ []) → P v2.seen → MakesTurn (known z v0) (known z' v3) e place P
   turned z z' v0 v1 v2 v3 e t place P lock drew more tick look at there served given =

@@ -1,4 +1,4 @@
--- Histories: lists of entries, the first one first.
+-- Histories: lists of entries, the first entry first.
 use Rattle.std.specs.Prelude.{◌≡◌, ℕ, ◌<◌, ◌==◌, Bool, cond, List, [], ◌∷◌}
 use mathlib.Core.Option.{some}
 use lib.ListN.{get_elem?}
@@ -20,6 +20,6 @@ module _ {C : Type 0} where
   AllBelow n [] = Unit {0}
   AllBelow n (e ∷ es) = (e.seat < n) × AllBelow n es
 
-  -- each joined seat has a number above 0 and the list of its entries in h
+  -- each joined seat has a number above 0, and has the list of its entries in h
   abbrev pub AllJoined : List (Entry C) → List (Joined C) → Type 0
   AllJoined h xs = (i : ℕ) (x : Joined C) → get_elem? xs i ≡ some x → (0 < x.number) × (own_of x.number h ≡ x.own)

@@ -1,4 +1,4 @@
--- What contracts see of a seat, and how the calls on the lock change it.
+-- The parts of a seat that contracts see, and the effect of the lock's calls on them.
 use Rattle.std.specs.Prelude.{◌≡◌, ℕ, ◌+◌, ◌^◌, ◌<◌, ◌≤◌, ltb, cond, max, List, [], ◌∷◌, ◌++◌, length}
 use mathlib.Core.Option.{some}
 use mathlib.Core.List.{IsPrefix}
@@ -19,11 +19,11 @@ pub record Known (C : Type 0) : Type 0 where
   pub seen : List (Entry C)
   -- the entries that the seat made
   pub own : List (Entry C)
-  -- the greatest number found by a draw of a ticket; for the first seat, also by the seats joined into it
+  -- the greatest number that a draw of this seat found; for the first seat, the draws of the seats joined into it count too
   pub found : ℕ
   -- for the first seat: the number of seats made so far, itself included
   pub count : ℕ
-  -- for the first seat: the seats that were joined into it, the last one last
+  -- for the first seat: the seats that were joined into it, in order
   pub joined : List (Joined C)
 
 module _ {C : Type 0} where
@@ -31,7 +31,7 @@ module _ {C : Type 0} where
   abbrev pub longer : List (Entry C) → List (Entry C) → List (Entry C)
   longer xs ys = cond (ltb (length xs) (length ys)) ys xs
 
-  -- what is true of a seat between two calls
+  -- facts about a seat between two calls
   pub record Fits (k : Known C) : Type 0 where
     pub own : own_of k.number k.seen ≡ k.own
     pub found : k.found ≤ 2 ^ 63
@@ -39,17 +39,17 @@ module _ {C : Type 0} where
     pub below : k.number ≡ 0 → AllBelow k.count k.seen
     pub joined : k.number ≡ 0 → AllJoined k.seen k.joined
 
-  -- what a turn leaves unchanged; the greatest number found never falls
+  -- the parts that a turn leaves unchanged; the greatest number found never falls
   abbrev pub KeepsSeat : Known C → Known C → Type 0
   KeepsSeat k l = (l.lock ≡ k.lock) × (l.first ≡ k.first) × (l.number ≡ k.number) × (l.count ≡ k.count) × (l.joined ≡ k.joined) × (k.found ≤ l.found)
 
-  -- A turn with the entry e. The seat has then seen a history that extends what it had seen, and after it e, which has this place.
-  -- The reply is one that may be returned after that history.
+  -- A turn with the entry e. Afterwards the seat has seen a history that extends what it had seen before, and
+  -- after that history e, which has this place. The reply is one that may be returned after that history.
   abbrev pub MakesTurn : Known C → Known C → Entry C → ℕ → (List (Entry C) → Type 0) → Type 0
   MakesTurn k l e place gives = KeepsSeat k l × ((h : List (Entry C)) × IsPrefix k.seen h × (l.seen ≡ h ++ e ∷ []) × gives h)
       × (l.own ≡ k.own ++ e ∷ []) × (place + 1 ≡ l.first + length l.seen) × (place ≤ l.found)
 
-  -- all tickets were found to be drawn, and nothing else changed
+  -- the seat found that all tickets are drawn, and nothing else changed
   abbrev pub FindsWorn : Known C → Known C → Type 0
   FindsWorn k l = (l ≡ record k { found = 2 ^ 63 }) × (k.found ≤ 2 ^ 63)
 
@@ -57,7 +57,7 @@ module _ {C : Type 0} where
   abbrev pub opened : TableId → ℕ → Known C
   opened lock first = record { lock = lock; first = first; number = 0; seen = []; own = []; found = 0; count = 1; joined = [] }
 
-  -- the first seat after it has counted one more seat
+  -- the first seat after one more seat was made
   abbrev pub counted : Known C → Known C
   counted k = record { lock = k.lock; first = k.first; number = k.number; seen = k.seen; own = k.own; found = k.found; count = k.count + 1; joined = k.joined }
 
@@ -79,6 +79,6 @@ module _ {C : Type 0} where
         joined = k.joined ++ record { number = l.number; own = l.own } ∷ [];
       }
 
-  -- each other seat that was made was joined into this one
+  -- each other seat that was made has been joined into this one
   abbrev pub AllJoinedIn : Known C → Type 0
   AllJoinedIn k = (n : ℕ) → 0 < n → n < k.count → (i : ℕ) × (x : Joined C) × (get_elem? k.joined i ≡ some x) × (x.number ≡ n)

@@ -1,8 +1,8 @@
--- The rule of the lock, which holds between any two steps, and what each kind of step shows.
+-- The rule of the lock, which holds between any two steps, and the facts that each kind of step shows.
 --
--- Word 0 is the next ticket, word 1 the ticket being served, and the only slot has the value. A seat's number is its place in the table's
--- list of views. The log is the history. The seats in the queue have the tickets from the served one on, in order, so only the front seat
--- may have the value. While no seat has it, the value is in the slot and represents the log.
+-- Word 0 is the next ticket, word 1 is the ticket being served, and the only slot has the value. A seat's number is its place in
+-- the table's list of views. The log is the history. The seats in the queue have the tickets from the served one on, in order,
+-- so only the first seat in it may have the value. While no seat has it, the value is in the slot and represents the log.
 use Rattle.std.specs.Prelude.{◌≡◌, ◌≢◌, ℕ, ◌+◌, ◌-◌, ◌^◌, ◌≤◌, max, List, [], ◌∷◌, length, Some}
 use mathlib.Core.Option.{Option, none, some}
 use mathlib.Core.List.{IsPrefix}
@@ -22,14 +22,14 @@ abbrev Sat : Type 0 → Type 0 → Type 0
 Sat S C = Me (Opt S) (View C)
 
 module _ {C : Type 0} where
-  -- a ticket is in its place in the queue, and the seat with the value has seen the whole log
+  -- a waiting seat's ticket determines its place in the queue, and the seat with the value has seen the whole log
   abbrev pub Queues : ℕ → List (Entry C) → List ℕ → ℕ → List (Entry C) → Stage → Type 0
   Queues serve log queue j seen Idle = Unit {0}
   Queues serve log queue j seen (Waiting t) = (serve ≤ t) × (get_elem? queue (t - serve) ≡ some j)
   Queues serve log queue j seen (Holding t) = (t ≡ serve) × (get_elem? queue 0 ≡ some j) × (seen ≡ log)
   Queues serve log queue j seen Spent = ⊥
 
-  -- what is known of a live seat
+  -- facts about a live seat
   pub record Knows (first : ℕ) (log : List (Entry C)) (queue : List ℕ) (seats : ℕ) (j : ℕ) (v : View C) : Type 0 where
     pub base : v.base ≡ first
     pub number : v.number ≡ j
@@ -42,7 +42,7 @@ module _ {C : Type 0} where
     pub queued : Queues (first + length log) log queue j v.seen v.stage
 
 module _ {S C : Type 0} where
-  -- the only slot has a value that represents the history, or the seat whose turn it is has the slot
+  -- the only slot has a value that represents the history, or the seat whose turn it is has the slot's content
   abbrev pub AtHome : (S → List (Entry C) → Type 0) → ℕ → List (Entry C) → List (View C) → Option (Opt S) → Type 0
   AtHome stands serve log views none = (j : ℕ) × (v : View C) × (get_elem? views j ≡ some v) × (v.stage ≡ Holding serve)
   AtHome stands serve log views (some y) = (x : S) × (y ≡ Some x) × stands x log
@@ -61,19 +61,19 @@ module _ {S C : Type 0} where
     pub home : AtHome stands (first + length log) log s.views slot
     pub live : (j : ℕ) (v : View C) → get_elem? s.views j ≡ some v → IsLive v.stage → Knows first log queue (length s.views) j v
     pub queued : (i j : ℕ) → get_elem? queue i ≡ some j → (v : View C) × (get_elem? s.views j ≡ some v) × HasTicket (first + length log + i) v.stage
-    -- some live seat, the last to serve, has seen the whole history
+    -- some live seat, the last one that served, has seen the whole history
     pub whole : (j : ℕ) × (v : View C) × (get_elem? s.views j ≡ some v) × IsLive v.stage × (v.seen ≡ log)
     -- each entry belongs to a seat that was made
     pub below : AllBelow (length s.views) log
     -- the first seat is never joined
     pub root : (v : View C) × (get_elem? s.views 0 ≡ some v) × IsLive v.stage
-    -- what the first seat keeps of each joined seat is all of this seat's entries, since a joined seat makes no turn
+    -- the first seat has all entries of each joined seat, since a joined seat makes no further turn
     pub joined : (v : View C) → get_elem? s.views 0 ≡ some v → AllJoined log v.joined
     pub joined_seen : (v : View C) → get_elem? s.views 0 ≡ some v → AllJoined v.seen v.joined
     pub gone : (v : View C) (i : ℕ) (x : Joined C) → get_elem? s.views 0 ≡ some v → get_elem? v.joined i ≡ some x → (w : View C)
         × (get_elem? s.views x.number ≡ some w) × (w.stage ≡ Spent)
 
-  -- the draw's result is noted as found; if it is the expected ticket, the seat has this ticket
+  -- the number found by the draw is recorded; if it is the expected ticket, the seat has this ticket
   abbrev pub drew : Step (Opt S) → Sat S C → ℕ → Sat S C → Type 0
   drew st m found m' = (max m.0.found found ≤ 2 ^ 63) × (found ≡ st.first → m' ≡ (drawing m.0 found (Waiting found), m.1))
       × (found ≢ st.first → m' ≡ (drawing m.0 found m.0.stage, m.1))
@@ -88,11 +88,11 @@ module _ {S C : Type 0} where
   abbrev pub served : List (Entry C) → Step (Opt S) → Sat S C → ℕ → Sat S C → Type 0
   served es st m found m' = (m' ≡ (serving m.0 es, [])) × (found ≡ m.0.base + length m.0.seen)
 
-  -- the list that was seen and the list seen beside it are prefixes of one history
+  -- the list that the seat has seen, and the other list seen at its last join, are prefixes of one history
   abbrev pub told : Step (Opt S) → Sat S C → ℕ → Sat S C → Type 0
   told st m found m' = (m' ≡ m) × Sound m.0 × ((h : List (Entry C)) × IsPrefix m.0.seen h × IsPrefix m.0.beside h)
 
-  -- it is the same seat of the same table
+  -- the second is the same seat of the same table
   abbrev pub IsSame : Seat (Opt S) (View C) → Seat (Opt S) (View C) → Type 0
   IsSame p q = (q.table_id ≡ p.table_id) × (q.id ≡ p.id)
 
@@ -108,6 +108,6 @@ module _ {S C : Type 0} where
   abbrev pub IsWorn : Seat (Opt S) (View C) → Seat (Opt S) (View C) → Type 0
   IsWorn p q = IsSame p q × (q.me ≡ (finding p.me.0 (2 ^ 63) Idle, [])) × (p.me.0.found ≤ 2 ^ 63)
 
-  -- the seat has the value, which represents all that the seat has now seen
+  -- the seat has the value, which represents everything that the seat has now seen
   abbrev pub Has : (S → List (Entry C) → Type 0) → ℕ → Seat (Opt S) (View C) → Type 0
   Has stands t p = (x : S) × (p.me.0.stage ≡ Holding t) × (p.me.1 ≡ (0, Some x) ∷ []) × stands x p.me.0.seen × (p.me.0.base + length p.me.0.seen ≡ t)

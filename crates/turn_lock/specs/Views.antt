@@ -1,4 +1,4 @@
--- What a seat knows, and how each step changes it.
+-- The knowledge of a seat, and the effect of each step on it.
 use Rattle.std.specs.Prelude.{◌≡◌, ℕ, ◌+◌, ◌^◌, ◌<◌, ◌≤◌, ltb, cond, max, List, [], ◌∷◌, ◌++◌, length}
 use Rattle.atomic_table.specs.Seated.{TableId}
 use Rattle.turn_lock.specs.declared.history.Entry.{Entry}
@@ -14,7 +14,7 @@ HasTicket t (Waiting u) = t ≡ u
 HasTicket t (Holding u) = t ≡ u
 HasTicket t Spent = ⊥
 
--- the seat was not joined into another
+-- the seat wasn't joined into another one
 abbrev pub IsLive : Stage → Type 0
 IsLive Idle = Unit {0}
 IsLive (Waiting u) = Unit {0}
@@ -26,7 +26,7 @@ module _ {C : Type 0} where
   abbrev pub known : TableId → View C → Known C
   known lock v = record { lock = lock; first = v.base; number = v.number; seen = v.seen; own = v.own; found = v.found; count = v.count; joined = v.joined }
 
-  -- the seen prefix has the seat's own entries; for the first seat, also those of the joined seats
+  -- the entries of the seat in the prefix that it has seen are its own entries; for the first seat this includes the joined seats
   pub record Sound (v : View C) : Type 0 where
     pub own : own_of v.number v.seen ≡ v.own
     pub found : v.found ≤ 2 ^ 63
@@ -57,7 +57,7 @@ module _ {C : Type 0} where
         stage = stage;
       }
 
-  -- the view after the seat added the entries es of its own to the history
+  -- the view after the seat added its entries es to the history
   abbrev pub serving : View C → List (Entry C) → View C
   serving v es = record {
     base = v.base;

@@ -21,23 +21,23 @@ use std::marker::{Brand, Model};
 use std::sync::Wait;
 use thiserror::Error;
 
-/// The index of the word that contains the next ticket to draw.
+/// The index of the word that contains the next ticket, which no thread has drawn.
 const NEXT_TICKET: usize = 0;
 
 /// The index of the word that contains the ticket being served.
 const SERVED_TICKET: usize = 1;
 
-/// The number of gates. A thread that waits for a ticket sleeps at gate `ticket % GATES`, and a turn's end wakes all sleepers at the next
-/// ticket's gate. While at most `GATES` threads wait, each has a gate of its own.
+/// The number of gates. A thread that waits for a ticket sleeps at gate `ticket % GATES`. The end of a turn wakes
+/// all threads that sleep at the next ticket's gate. While at most `GATES` threads wait, each has its own gate.
 const GATES: usize = 64;
 
-/// A thread may spin if its ticket is at most this far behind the served one; other threads sleep at once.
+/// A thread may spin if its ticket is at most this far behind the served ticket; any other thread sleeps at once.
 const NEAR: u64 = 1;
 
 /// Every ticket is below this number.
 const TICKET_LIMIT: u64 = 1 << 63;
 
-/// The index of the gate at which a thread with this ticket waits.
+/// Returns the index of the gate at which a thread with this ticket waits.
 fn gate_of(ticket: u64) -> usize
     ensures { result ≡ ticket % GATES }
 {
@@ -57,7 +57,7 @@ pub struct Turn<T> {
 #[error("all tickets of the lock are drawn")]
 pub struct Worn;
 
-/// A lock and the value behind it. In contracts a `Turns` is its lock's identity.
+/// A lock and the value behind it. Contracts see a `Turns` as the lock's identity.
 #[derive(Drop)]
 pub struct Turns<H: Held> {
     table: Table<Option<H>, View<H::Call>, u64, Ticketed<H>, Global>,
@@ -77,9 +77,9 @@ impl<H: Held> Model for Turns<H> {
     ghost invariant = { λ t. (t.table.shared.table_id.words ≡ 2) × (t.table.shared.table_id.slots ≡ 1) };
 }
 
-/// A thread's handle on a lock: with it the thread makes turns, one at a time. Contracts see the seat's lock, the place of the first entry, the seat's
-/// number, the prefix of the history that it has seen, and its own entries. They see the greatest next ticket found at a draw by this seat or,
-/// for the first seat, also by the seats joined into it. For the first seat they also see how many seats were made and which were joined.
+/// A thread's handle on a lock: with it the thread makes turns, one at a time. Contracts see the seat's number, its lock, and the place of the lock's first
+/// entry. They see the prefix of the history that the seat has seen, and its own entries. They see the greatest next ticket that a draw of this seat found;
+/// for the first seat, the draws of the seats joined into it count too. For the first seat they also see how many seats were made and which were joined.
 #[derive(Drop)]
 pub struct Seat<H: Held> {
     inner: atomic_table::Seat<Option<H>, View<H::Call>>,
@@ -101,7 +101,7 @@ impl<H: Held> Model for Seat<H> {
 }
 
 impl<H: Held> Seat<H> {
-    /// A lemma: `Fits` is true of each seat between two calls on its lock. Does nothing at run time.
+    /// A lemma: `Fits` holds for each seat between two calls on its lock. The function does nothing at run time.
     pub fn lemma_fits(&self)
         ensures { Fits self.now }
     {
@@ -110,8 +110,8 @@ impl<H: Held> Seat<H> {
 }
 
 impl<H: Held> Turns<H> {
-    /// Puts a value that has served no call behind a new lock. Returns the lock and its first seat, which has number 0. The first
-    /// turn will have the place `first`, which must be at most 2^63. On `NoMemory` the value is dropped.
+    /// Puts a value that has served no call behind a new lock. Returns the lock and its first seat, which has
+    /// number 0. The first turn will have the place `first`, at most 2^63. On `NoMemory` the value is dropped.
     pub fn new(alloc: Global, value: H, first: u64) -> Result<(Turns<H>, Seat<H>), NoMemory>
         requires first { first ≤ 2 ^ 63 }
         requires empty { H.stands value [] }
@@ -134,8 +134,8 @@ impl<H: Held> Turns<H> {
         Ok((Turns { table, gates }, seat))
     }
 
-    /// Makes a seat for one more thread. `seat` must be the first seat, with at most 1,023 seats made so far, itself
-    /// included. The new seat has the next number and has seen the same prefix of the history as the first.
+    /// Makes a seat for one more thread. `seat` must be the first seat, and at most 1,023 seats may have been made,
+    /// including the first. The new seat has the next number, and has seen the same prefix of the history as the first seat.
     pub fn split(&self, seat: &mut Seat<H>) -> Seat<H>
         requires lock { seat.old.lock ≡ self.now }
         requires first { seat.old.number ≡ 0 }
@@ -154,8 +154,8 @@ impl<H: Held> Turns<H> {
         }
     }
 
-    /// Joins the seat `from` of this lock into the first seat `into`, which keeps the number and the entries of `from`. Of the two
-    /// prefixes of the history that they have seen, `into` keeps the longer one; the other one is a prefix of it.
+    /// Joins the seat `from` into the first seat `into`, which then has the number and the entries of `from` too. Each of
+    /// the two seats has seen a prefix of the history; `into` keeps the longer one. The shorter one is a prefix of it.
     pub fn join(&self, into: &mut Seat<H>, from: Seat<H>)
         requires lock { (into.old.lock ≡ self.now) × (from.lock ≡ self.now) }
         requires first { into.old.number ≡ 0 }
@@ -175,8 +175,8 @@ impl<H: Held> Turns<H> {
             .load::<Tell>(&mut into.inner, SERVED_TICKET);
     }
 
-    /// Draws a ticket, waits until each turn with an earlier ticket is over, and serves the call on the value. Returns `Worn` only
-    /// if all tickets are drawn; the value and the scratch are then unchanged.
+    /// Draws a ticket, waits until all turns with earlier tickets are over, and serves the call on the
+    /// value. Returns `Worn` only if all tickets are drawn. The value and the scratch are then unchanged.
     pub fn turn<W: Wait + Sync>(
         &self,
         rt: &W,
@@ -250,8 +250,8 @@ impl<H: Held> Turns<H> {
         unreachable!()
     }
 
-    /// Waits until the ticket is served, and takes the value. A thread whose ticket is next spins and yields for a short time and then
-    /// sleeps at its gate; a thread further back sleeps at once.
+    /// Waits until the ticket is served, and takes the value. A thread whose ticket is next spins and
+    /// yields for a short time, and then sleeps at its gate. A thread further back sleeps at once.
     fn wait<W: Wait>(
         &self,
         rt: &W,
@@ -268,7 +268,8 @@ impl<H: Held> Turns<H> {
         let backoff = Backoff::new();
         let mut far = false;
         for _ in rt.forever() {
-            // The wait is announced before the look. So a turn that ends after the look finds the announcement and wakes this thread.
+            // The thread announces its wait before it reads the served ticket. So a turn
+            // that ends after this read finds the announcement and wakes the thread.
             let key = if far || backoff.is_completed() {
                 Some(self.gates[gate_of(ticket)].prepare_wait())
             } else {
@@ -288,7 +289,7 @@ impl<H: Held> Turns<H> {
         unreachable!()
     }
 
-    /// Puts the value back and makes the next ticket the served one, which adds the entry to the history. Returns the entry's place.
+    /// Puts the value back and makes the next ticket the served one. This adds the entry to the history. Returns the entry's place.
     fn give_back<J: Naming<H::Call>>(
         &self,
         inner: &mut atomic_table::Seat<Option<H>, View<H::Call>>,
@@ -308,8 +309,8 @@ impl<H: Held> Turns<H> {
             .fetch_add::<Serve<J>>(inner, SERVED_TICKET, 1)
     }
 
-    /// Serves the call on the value that the seat has, puts the value back, and wakes the threads that sleep at the next ticket's gate.
-    /// Returns the call's place and its reply.
+    /// Serves the call on the value that the seat has taken, puts the value back, and wakes the
+    /// threads that sleep at the next ticket's gate. Returns the call's place and its reply.
     fn serve(
         &self,
         inner: &mut atomic_table::Seat<Option<H>, View<H::Call>>,

@@ -27,7 +27,7 @@ impl<H, C> Play<Option<H>, View<C>> for Draw {
     ghost then = { drew };
 }
 
-/// Reads which ticket is served. If the seat waits for that ticket, the seat takes the value.
+/// Reads which ticket is being served. If the seat waits for that ticket, the seat takes the value.
 pub(crate) struct Look<H> {
     held: PhantomData<H>,
 }
@@ -38,7 +38,7 @@ impl<H: Held> Play<Option<H>, View<H::Call>> for Look<H> {
     ghost then = { looked H.stands };
 }
 
-/// Puts the value back, makes the next ticket the served one, and adds to the history.
+/// Puts the value back, makes the next ticket the served one, and adds entries to the history.
 pub(crate) struct Serve<J> {
     naming: PhantomData<J>,
 }
@@ -49,7 +49,7 @@ impl<H, C, J: Naming<C>> Play<Option<H>, View<C>> for Serve<J> {
     ghost then = { served J.adds };
 }
 
-/// Changes nothing. Shows, after a join, that the lists seen by the two seats are both prefixes of one history.
+/// Changes nothing. After a join it shows that the lists that the two seats have seen are both prefixes of one history.
 pub(crate) struct Tell;
 
 impl<H, C> Play<Option<H>, View<C>> for Tell {

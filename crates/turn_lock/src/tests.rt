@@ -87,7 +87,7 @@ fn seats_for<H: Held>(
     Ok(seats)
 }
 
-/// Adds 1 in each of `TURNS_EACH` turns, and returns the places. `None`: a turn failed, or a reply didn't fit its place.
+/// Adds 1 in each of `TURNS_EACH` turns, and returns the places. Returns `None` if a turn failed, or if a reply didn't fit its place.
 fn count<W: Wait + Sync>(
     rt: &W,
     alloc: Global,
@@ -145,7 +145,7 @@ fn eight_threads_make_each_place_once(rt: HostRuntime) -> Result<(), Fail> {
 /// The number of threads: more than there are gates.
 const SLEEPERS: u32 = 80;
 
-/// Counts its calls. Each takes a tenth of a millisecond, so that threads that wait for their turns fall asleep.
+/// Counts its calls. Each call takes a tenth of a millisecond, so that threads that wait for their turns fall asleep.
 #[derive(Drop)]
 struct Slow<R: Clock + Drop> {
     made: u64,

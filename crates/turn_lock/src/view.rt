@@ -22,13 +22,13 @@ pub struct View<C> {
     /// The prefix of the history that the seat has seen.
     pub seen: LinkedList<Entry<C>>,
     pub own: LinkedList<Entry<C>>,
-    /// The greatest next ticket found at a draw by this seat; for the first seat, also by the seats joined into it. 0 before a draw.
+    /// The greatest next ticket that a draw of this seat found; for the first seat, the draws of the seats joined into it count too. 0 before the first draw.
     pub found: u64,
     /// For the first seat: the number of seats made so far, itself included.
     pub count: u32,
     /// For the first seat: the seats that were joined into it.
     pub joined: LinkedList<Joined<C>>,
-    /// For the first seat: the shorter of the two prefixes seen at the last join; empty before a join.
+    /// For the first seat: the shorter of the two prefixes that the seats of the last join had seen. Empty before the first join.
     pub beside: LinkedList<Entry<C>>,
     pub stage: Stage,
 }

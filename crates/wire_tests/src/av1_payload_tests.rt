@@ -4,13 +4,13 @@ use av1_payload::{PayloadFault, read};
 use std::process::Abort;
 use std::test::Fail;
 
-// A payload, its Z, Y and N, and its elements.
+// A payload, its bits Z, Y and N, and its elements.
 type Row<'a> = (&'a [u8], [bool; 3], &'a [&'a [u8]]);
 
 const NO_FLAGS: [bool; 3] = [false, false, false];
 
 const PAYLOADS: [Row; 20] = [
-    // W = 0: each element has its length before it
+    // W = 0: a length precedes each element
     (
         &[0x00, 2, 0x30, 0xAA, 1, 0x10],
         NO_FLAGS,
@@ -21,7 +21,7 @@ const PAYLOADS: [Row; 20] = [
         NO_FLAGS,
         &[&[5], &[], &[6], &[7, 8], &[]],
     ),
-    // W = 1 to 3: the last element has no length
+    // W = 1 to 3: no length precedes the last element
     (&[0x10, 2, 0x30, 0xAA], NO_FLAGS, &[&[2, 0x30, 0xAA]]),
     (&[0x20, 2, 1, 2, 3, 4], NO_FLAGS, &[&[1, 2], &[3, 4]]),
     (
@@ -61,7 +61,7 @@ const PAYLOADS: [Row; 20] = [
 
 const FAULTS: [(&[u8], PayloadFault); 20] = [
     (&[], PayloadFault::Empty),
-    // W = 0 and nothing after the header, whatever its other bits
+    // W = 0 and nothing after the header, whatever the header's other bits are
     (&[0x00], PayloadFault::NoElement),
     (&[0xCF], PayloadFault::NoElement),
     // the bytes end where a length should begin
@@ -75,14 +75,14 @@ const FAULTS: [(&[u8], PayloadFault); 20] = [
         &[0x00, 0x80, 0x80, 0x80, 0x80, 0x80, 0x80, 0x80, 0x80, 0],
         PayloadFault::Leb,
     ),
-    // a length of 2^32, one of 2^56 - 1, and the greatest length
+    // the lengths 2^32 and 2^56 - 1, which leb128 doesn't allow, and 2^32 - 1, the greatest length
     (&[0x00, 0x80, 0x80, 0x80, 0x80, 0x10], PayloadFault::Leb),
     (
         &[0x00, 0xFF, 0xFF, 0xFF, 0xFF, 0xFF, 0xFF, 0xFF, 0x7F],
         PayloadFault::Leb,
     ),
     (&[0x00, 0xFF, 0xFF, 0xFF, 0xFF, 0x0F], PayloadFault::Length),
-    // a length greater than the number of bytes that are left
+    // a length greater than the number of bytes that follow
     (&[0x00, 1], PayloadFault::Length),
     (&[0x00, 3, 0xAA, 0xBB], PayloadFault::Length),
     (&[0x00, 1, 0xAA, 3, 0xBB, 0xCC], PayloadFault::Length),

@@ -1,4 +1,4 @@
-// OBU headers laid out by hand from the AV1 Bitstream Specification, sections 5.3.2 and 5.3.3, and packets that join or don't.
+// OBU headers laid out by hand from the AV1 Bitstream Specification, sections 5.3.2 and 5.3.3, and packets whose elements do or don't join.
 
 use obu_element::{JoinFault, Joiner, ObuFault, ObuHeader, header};
 use std::process::Abort;
@@ -42,7 +42,7 @@ fn each_header_says_its_fields(rt: HostRuntime) {
     }
 }
 
-// Feeds packets, each given by its Z and Y. Returns the result for the last one, and whether no element is open after it.
+// Feeds packets, each given by its bits Z and Y. Returns the result for the last packet, and whether no element is open after it.
 fn fed(packets: &[(bool, bool)]) -> (Result<(), JoinFault>, bool) {
     let mut joiner = Joiner::new();
     let mut last = Ok(());

@@ -123,7 +123,7 @@ fn what_does_not_fit_is_not_written(rt: HostRuntime) {
     assert_eq!(rt; block.bytes().len(), 2048);
 }
 
-// Writes the block with a new value for this id. `None`: the block has no element with the id, or the value isn't 1 to 255 bytes long.
+// Writes the block with a new value for this id. Returns `None` if the block has no element with the id, or the value isn't 1 to 255 bytes long.
 fn reblocked(
     profile: u16,
     block: &[u8],
@@ -151,7 +151,7 @@ fn one_value_is_replaced(rt: HostRuntime) {
             b"\xc0\x00\x01\xc0\x00\x3a\x41\x01\x40",
             b"\xbe\xde\x00\x03\x48\xc0\x00\x01\xc0\x00\x3a\x41\x01\x40\x00\x00",
         ),
-        // padding between elements is dropped, and so is all from id 15 on
+        // padding between elements is dropped, and so is everything from id 15 on
         (
             0xBEDE,
             b"\x10\xaa\x00\x20\xbb\xf0\x42\xc1",
@@ -183,7 +183,7 @@ fn one_value_is_replaced(rt: HostRuntime) {
             b"\x05\x06",
             b"\x10\x0f\x00\x03\x01\x00\x02\x02\x05\x06\x02\x01\x08\x00\x00\x00",
         ),
-        // whole words without padding
+        // the elements fill whole words, so there is no padding
         (
             0xBEDE,
             b"\x31\x01\x02\x00",

@@ -6,14 +6,14 @@ use rtp_packet::{Rtp, read, restamp, rewrite};
 use sfu_base::{PacketBuf, RtpFault};
 use std::test::Fail;
 
-// Version 2, padding, extension, two CSRC words; marker, payload type 96; an extension of one word; three bytes of
-// payload; three bytes of padding.
+// Version 2, padding, extension, two CSRC words; marker, payload type 96;
+// an extension of one word; three bytes of payload; three bytes of padding.
 static FULL: [u8; 34] = [
     0xB2, 0xE0, 0x12, 0x34, 1, 2, 3, 4, 0xAA, 0xBB, 0xCC, 0xDD, 0, 0, 0, 1, 0, 0, 0, 2, 0xBE, 0xDE,
     0, 1, 0x10, 0xAA, 0, 0, 7, 8, 9, 0, 0, 3,
 ];
 
-// The fault in these bytes, if there is one.
+// Returns the fault in these bytes, if there is one.
 fn fault(bytes: &[u8]) -> Option<RtpFault> {
     match read(bytes) {
         Ok(_) => None,
@@ -21,7 +21,7 @@ fn fault(bytes: &[u8]) -> Option<RtpFault> {
     }
 }
 
-// A packet: a fixed header with this first byte, then `tail`.
+// Returns a packet: a fixed header with this first byte, then `tail`.
 fn with_tail(first: u8, tail: &[u8]) -> PacketBuf
     requires { length tail.now ≤ 100 }
 {
@@ -72,7 +72,7 @@ fn each_fault_comes_first_at_its_edge(rt: HostRuntime) {
     let rows: [(u8, &[u8], Option<RtpFault>); 14] = [
         // a fixed header alone
         (0x80, &[], None),
-        // other versions are reported, whatever other faults follow
+        // another version is reported, whatever other faults follow
         (0x00, &[], version),
         (0x7F, &[], version),
         (0xC0, &[], version),
@@ -82,7 +82,7 @@ fn each_fault_comes_first_at_its_edge(rt: HostRuntime) {
         // an extension of no words, and one of two words of which one is missing
         (0x90, &[0xBE, 0xDE, 0, 0], None),
         (0x90, &[0xBE, 0xDE, 0, 2, 0, 0, 0, 0], extension),
-        // padding: no byte; a count of 0; a count of all bytes after the header; a count of one more
+        // padding of no byte; with the count 0; with a count of all bytes after the header; with a count of one more
         (0xA0, &[], padding),
         (0xA0, &[9, 9, 0], padding),
         (0xA0, &[9, 9, 3], None),

@@ -61,7 +61,7 @@ fn what_is_wrapped_comes_back_without_padding(rt: HostRuntime) -> Result<(), Fai
 #[test]
 fn what_carries_no_packet_is_refused(rt: HostRuntime) {
     let rows: [(&[u8], RtxFault); 4] = [
-        // a payload of one byte, and nothing but padding
+        // a payload of one byte; a payload of nothing but padding
         (
             b"\x80\x61\x00\x00\x00\x00\x00\x00\x33\x33\x33\x33\xaa",
             RtxFault::Cut,

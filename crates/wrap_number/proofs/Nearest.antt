@@ -21,7 +21,7 @@ distance_when_above a b d over = grind (arith, ints)
 abbrev IsResidue : ℤ → ℕ → Type 0
 IsResidue m r = int_rem_euclid m (pos 65536) ≡ pos r
 
--- two numbers with the same remainder are equal, or 65,536 or more apart
+-- two numbers with the same remainder are equal, or differ by 65,536 or more
 apart : (a b : ℤ) (n : ℕ) → IsResidue a n → IsResidue b n → (a ≡ b) ⊎ (((a +ℤ pos 65536) ≤ℤ b) ⊎ ((b +ℤ pos 65536) ≤ℤ a))
 apart (pos a) (pos b) n here there = grind (arith, ints)
 apart (pos a) (negsuc b) n here there = grind (arith, ints)
@@ -30,7 +30,7 @@ apart (negsuc a) (negsuc b) n here there = grind (arith, ints)
 
 -- ---- the nearest number
 
--- the number is this far ahead, or 65,536 below that
+-- the number is `newest` plus `ahead`, or 65,536 below that sum
 record IsPlaced (newest : ℤ) (ahead : ℕ) (m : ℤ) : Type 0 where
   low : (newest -ℤ pos 32768) ≤ℤ m
   high : m ≤ℤ (newest +ℤ pos 32767)
@@ -108,7 +108,7 @@ above_is newest n up =
       above = omega arith;
     }
 
--- it lies less than 32,768 above
+-- the nearest number, if it lies above `newest`, lies less than 32,768 above it
 less_than_half : (newest n m : ℕ) → IsNearestAbove newest n m → m < newest + 32768
 less_than_half newest n m h = elim (cases_lt m (newest + 32768)) [
   | inl low ↦ low

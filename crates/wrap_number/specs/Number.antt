@@ -40,7 +40,7 @@ pub record IsLeastAbove (newest n m : ℕ) : Type 0 where
 
 -- ---- the chosen number as a value, for definitions that compute with it
 
--- how far the least number at or above `newest` that is n modulo 65,536 lies above `newest`
+-- the distance from `newest` up to the least number, `newest` or above, that is n modulo 65,536
 abbrev pub ahead_of : ℤ → ℕ → ℕ
 ahead_of newest n = (n + 65536 - unsigned_abs (int_rem_euclid newest (pos 65536))) % 65536
 

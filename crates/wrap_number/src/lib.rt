@@ -1,5 +1,5 @@
-//! Sequence numbers and frame numbers are sent in 16 bits and wrap at 65,536 (RFC 3550, section 5.1). [`place`] and [`above`] unwrap
-//! a 16-bit number, given the newest unwrapped number. Neither takes memory.
+//! Sequence numbers and frame numbers are sent in 16 bits and wrap at 65,536 (RFC 3550, section 5.1). [`place`] and [`above`] unwrap a 16-bit
+//! number, given the newest unwrapped number. Neither allocates memory.
 #![tactic(auto)]
 
 ghost use Rattle.std.specs.Prelude.{◌≡◌, ◌≤ℤ◌, ◌<◌, ◌^◌, neg_ℤ, pos};
@@ -9,7 +9,7 @@ ghost use Rattle.wrap_number.specs.Number.{NearestIsNearest, LeastIsLeast, Above
 // How many numbers of 16 bits there are.
 const TURN: u32 = 65_536;
 
-/// Returns the number nearest to `newest` that is `n` modulo 65,536 (own rule). If two are equally near, returns the lower one.
+/// Of the numbers that are `n` modulo 65,536, returns the one nearest to `newest` (own rule). If two are equally near, returns the lower one.
 pub fn place(newest: i64, n: u16) -> i64
     requires low { neg_ℤ (pos (2 ^ 62)) ≤ℤ newest }
     requires high { newest ≤ℤ pos (2 ^ 62) }
@@ -24,7 +24,7 @@ pub fn place(newest: i64, n: u16) -> i64
     }
 }
 
-// How far the least number that is at or above `newest` and is `n` modulo 65,536 lies above `newest`: 0 to 65,535.
+// The distance, 0 to 65,535, from `newest` up to the least number that isn't below `newest` and is `n` modulo 65,536.
 fn ahead(newest: i64, n: u16) -> u32
     ensures value { result ≡ ahead_of newest n }
     ensures below { result < 65536 }
@@ -32,7 +32,7 @@ fn ahead(newest: i64, n: u16) -> u32
     (u32::from(n) + TURN - newest.rem_euclid(i64::from(TURN)) as u32) % TURN
 }
 
-/// Returns the least number above `newest` that is `n` modulo 65,536 (own rule).
+/// Of the numbers above `newest` that are `n` modulo 65,536, returns the least (own rule).
 pub fn above(newest: u64, n: u16) -> u64
     requires { newest < 2 ^ 63 }
     ensures least { IsLeastAbove newest n result }
@@ -42,13 +42,13 @@ pub fn above(newest: u64, n: u16) -> u64
     newest + (u64::from(n) + turn - 1 - newest % turn) % turn + 1
 }
 
-/// A law: at most one number is the nearest, and at most one is the least above.
+/// A law: at most one number fulfils `IsNearest`, and at most one fulfils `IsLeastAbove`.
 pub fn one_number_is_meant()
     ensures { IsOne }
 {}
 
-/// A law, for all numbers: `nearest_to` is the nearest number, and `least_above` is the least number above. `is_above` is true exactly when
-/// the nearest number lies above `newest`. In that case `number_above` is the nearest number.
+/// Laws for all numbers: `nearest_to` is the nearest number, and `least_above` is the least number above. `is_above` is true exactly when the
+/// nearest number lies above `newest`. If it does, `number_above` is the nearest number.
 pub fn values_are_nearest_and_least()
     ensures nearest { NearestIsNearest }
     ensures least { LeastIsLeast }
@@ -56,8 +56,7 @@ pub fn values_are_nearest_and_least()
     ensures found { NearestAboveIsFound }
 {}
 
-/// A law, for all numbers: a number that is `n` modulo 65,536 and lies above `newest` is the nearest exactly when it lies less than 32,768
-/// above.
+/// A law for a number above `newest` that is `n` modulo 65,536: it is the nearest exactly if it is less than 32,768 above `newest`.
 pub fn near_above_is_nearest()
     ensures { NearIsNearestAbove }
 {}

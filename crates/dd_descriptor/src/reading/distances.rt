@@ -1,4 +1,4 @@
-//! Reads the distances of a frame that are its own, and not its template's.
+//! Reads a frame's own distances, which take the place of its template's.
 
 ghost use Rattle.dd_bits.specs.Reader.{bits_left};
 ghost use Rattle.dd_bits.specs.Sequences.{Gives};

@@ -10,7 +10,7 @@ use dd_bits::BitReader;
 /// The width of a template's link, in bits.
 pub const LINK_WIDTH: u8 = 4;
 
-/// How many decode targets are protected by a chain: all, or none where there are no chains.
+/// How many decode targets are protected by a chain: all, or none if there are no chains.
 pub fn guarded_targets(chains: u8, targets: u8) -> u8
     ensures value { result ≡ guard_count chains targets }
     ensures within { result ≤ targets }
@@ -36,7 +36,7 @@ fn fill_guard_list(
     Ok(())
 }
 
-/// Reads into `out` which chain protects each decode target, in place of what was there.
+/// For each decode target, reads the index of the chain that protects it. The contents of `out` are overwritten.
 #[tactic(auto, unfolding(crate::specs::Reading::guards_at))]
 pub fn fill_guards(
     bits: &mut BitReader<'_>,
@@ -51,8 +51,8 @@ pub fn fill_guards(
     fill_guard_list(bits, chains, guarded_targets(chains, targets), out)
 }
 
-/// Reads a link of `width` bits for each chain, in place of what was there. Returns `short` where there are too few bits; the reader may
-/// then have moved on, and `out` may contain any links. Out of line: few frames have links of their own.
+/// Reads a link of `width` bits for each chain into `out`, which is overwritten. Returns `short` if there are too few bits. The reader may then
+/// have moved on, and `out` may have any links. Out of line: few frames have links of their own.
 #[inline(never)]
 pub fn read_links_into<E: Copy>(
     bits: &mut BitReader<'_>,
@@ -71,7 +71,7 @@ pub fn read_links_into<E: Copy>(
     Ok(())
 }
 
-/// Reads the links of each template, in place of what was there.
+/// Reads the links of each template into `out`, which is overwritten.
 pub fn fill_link_table(
     bits: &mut BitReader<'_>,
     chains: u8,

@@ -37,7 +37,7 @@ fn distances(bits: &mut BitReader<'_>) -> Result<Distances, StructureFault>
     }
 }
 
-/// Reads the distances of each template, in place of what was there.
+/// Reads the distances of each template into `out`, which is overwritten.
 pub fn fill_distance_table(
     bits: &mut BitReader<'_>,
     templates: u8,

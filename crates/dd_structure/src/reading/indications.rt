@@ -15,8 +15,8 @@ fn indication<E: Copy>(bits: &mut BitReader<'_>, short: E) -> Result<Dti, E>
     Ok(Dti::from_code(code))
 }
 
-/// Reads an indication for each decode target, in place of what was there. Returns `short` where there are too few bits; the reader may
-/// then have moved on, and `out` may contain any indications. Out of line: few frames have indications of their own.
+/// Reads an indication for each decode target into `out`, which is overwritten. Returns `short` if there are too few bits. The reader may then
+/// have moved on, and `out` may have any indications. Out of line: few frames have indications of their own.
 #[inline(never)]
 pub fn read_indications_into<E: Copy>(
     bits: &mut BitReader<'_>,
@@ -33,7 +33,7 @@ pub fn read_indications_into<E: Copy>(
     Ok(())
 }
 
-/// Reads the indications of each template, in place of what was there.
+/// Reads the indications of each template into `out`, which is overwritten.
 pub fn fill_indication_table(
     bits: &mut BitReader<'_>,
     targets: u8,

@@ -8,13 +8,13 @@ use crate::layer::Layer;
 use crate::reading::fields::number;
 use dd_bits::BitReader;
 
-/// The layer of the first template.
+/// The layer of the first template (Appendix A, template_layers).
 pub const FIRST: Layer = Layer {
     spatial: 0,
     temporal: 0,
 };
 
-/// Reads the layer of the template that follows one of layer `layer`; `None` where no template follows.
+/// Reads the layer of the next template, after a template of layer `layer`. Returns `None` if no template follows.
 #[tactic(auto, unfolding(crate::specs::Reading::next_layer_at))]
 fn next_layer(bits: &mut BitReader<'_>, layer: Layer) -> Result<Option<Layer>, StructureFault>
     ensures { Gives (λ v. v) result bits.new (next_layer_at layer (bits_left bits.old)) }
@@ -34,7 +34,7 @@ fn next_layer(bits: &mut BitReader<'_>, layer: Layer) -> Result<Option<Layer>, S
     }
 }
 
-/// Reads the layer of each template, in place of what was there. Returns how many templates there are.
+/// Reads the layer of each template into `out`, which is overwritten. Returns how many templates there are.
 pub fn fill_layers(bits: &mut BitReader<'_>, out: &mut [Layer; 64]) -> Result<u8, StructureFault>
     ensures read { Gives (λ n. take n out.new) result bits.new (layers_at (bits_left bits.old)) }
     ensures some { IfOk result (λ n. 1 ≤ n) }

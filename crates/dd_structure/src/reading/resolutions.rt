@@ -52,7 +52,7 @@ fn told_resolutions(flag: u32, layers: &[Layer]) -> u8
     if flag == 0 { 0 } else { spatial_count(layers) }
 }
 
-/// Reads the resolution of each spatial id, where the structure has resolutions.
+/// Reads the resolution of each spatial id, if the structure has resolutions.
 #[tactic(auto, unfolding(crate::specs::Reading::resolutions_at))]
 pub fn resolutions(
     bits: &mut BitReader<'_>,

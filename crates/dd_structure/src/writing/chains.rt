@@ -7,7 +7,7 @@ ghost use Rattle.dd_bits.specs.Writer.{Puts};
 use crate::reading::chains::LINK_WIDTH;
 use dd_bits::{BitWriter, NoRoom};
 
-/// Appends the chain that protects each decode target.
+/// Appends, for each decode target, the index of the chain that protects it.
 pub fn put_guards(out: &mut BitWriter, chains: u8, guards: &[u8]) -> Result<(), NoRoom>
     requires { All (λ g. g < chains) guards.now }
     ensures { Puts result out.old out.new (flat_map (non_symmetric_bits chains) guards.now) }
@@ -18,8 +18,7 @@ pub fn put_guards(out: &mut BitWriter, chains: u8, guards: &[u8]) -> Result<(), 
     Ok(())
 }
 
-/// Appends a link of `width` bits for each chain. Returns `NoRoom` where they don't fit; a part of them may have been
-/// appended by then.
+/// Appends a link of `width` bits for each chain. Returns `NoRoom` if the bits don't fit; a part of them may have been appended by then.
 pub fn put_links(out: &mut BitWriter, width: u8, row: &[u8]) -> Result<(), NoRoom>
     requires width { width ≤ 32 }
     requires small { All (λ l. l < 2 ^ width) row.now }

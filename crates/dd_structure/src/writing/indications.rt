@@ -6,7 +6,7 @@ ghost use Rattle.dd_structure.specs.Spelling.{indication_bits};
 use dd_bits::{BitWriter, NoRoom};
 use sfu_base::Dti;
 
-/// Appends an indication for each decode target. Returns `NoRoom` where they don't fit; a part of them may have been appended by then.
+/// Appends an indication for each decode target. Returns `NoRoom` if the bits don't fit; a part of them may have been appended by then.
 pub fn put_indications(out: &mut BitWriter, row: &[Dti]) -> Result<(), NoRoom>
     ensures { Puts result out.old out.new (flat_map indication_bits row.now) }
 {

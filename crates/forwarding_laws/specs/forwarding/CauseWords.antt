@@ -1,5 +1,5 @@
--- The cause of each number in words: for a frame's number, the verdict when the frame came; for any other number, a hole between the
--- frames beside it. Own statements. The definition goes through the verdicts from the newest down; the code keeps the last 4,096 of them.
+-- The cause of each number in words. For a frame's number, it is the verdict on the frame at its arrival. For any other number below the newest, it is a hole
+-- between the next frames below and above it. Own statements. The definition searches the verdicts from the newest on; the code keeps the last 4,096 of them.
 use Rattle.std.specs.Prelude.{◌≡◌, ◌+◌, ◌<◌, ◌≤◌, ℕ, List, ◌∷◌, ◌++◌, map, length}
 use Rattle.std.specs.declared.option.Option.{Option}
 use Rattle.std.specs.declared.option.Option.TheVariants.{None, Some}
@@ -22,26 +22,26 @@ pub record IsNextAbove (numbers : List ℕ) (n above : ℕ) : Type 0 where
   pub higher : n < above
   pub least : (m : ℕ) → IsMember m numbers → n < m → above ≤ m
 
--- the greatest of these numbers that lies below n, which is less than 4,096 below the newest
+-- the greatest of these numbers that lies below n, and it is less than 4,096 below the newest
 pub record IsNearBelow (numbers : List ℕ) (newest n below : ℕ) : Type 0 where
   pub stands : IsMember below numbers
   pub lower : below < n
   pub greatest : (m : ℕ) → IsMember m numbers → m < n → m ≤ below
   pub near : newest < below + 4096
 
--- the greatest below n, as defined above; or none, where each number below n is 4,096 or more below the newest
+-- the greatest number below n, as `IsNearBelow` defines it; or none, if each number below n is 4,096 or more below the newest
 abbrev pub IsNextBelow : List ℕ → ℕ → ℕ → Option ℕ → Type 0
 IsNextBelow numbers newest n None = (m : ℕ) → IsMember m numbers → m < n → m + 4096 ≤ newest
 IsNextBelow numbers newest n (Some below) = IsNearBelow numbers newest n below
 
--- the cause of a frame's number is the verdict when the frame came, whatever came since
+-- the cause of a frame's number is the verdict on the frame at its arrival, whatever came later
 abbrev pub FramesHaveTheirVerdicts : Type 0 → Type 0
 FramesHaveTheirVerdicts S = (wish : Wish) (since past : List (Event S)) (frame : Frame S)
     → IsOneTrack (meanings_of (since ++ WholeFrame frame ∷ past))
     → cause wish (since ++ WholeFrame frame ∷ past) frame.meaning.number
     ≡ verdict_at (standing wish past) frame.meaning (length frame.packets)
 
--- the cause of a number that no frame has, below the newest frame's, is a hole between the frames beside it
+-- a number below the newest frame's that no frame has is a hole between the next frames below and above it
 abbrev pub OtherNumbersAreHoles : Type 0 → Type 0
 OtherNumbersAreHoles S = (wish : Wish) (events : List (Event S)) (newest : Frame S) (older : List (Frame S)) (n : ℕ)
     → IsOneTrack (meanings_of events)
@@ -49,7 +49,7 @@ OtherNumbersAreHoles S = (wish : Wish) (events : List (Event S)) (newest : Frame
     → (below : Option ℕ) × (above : ℕ) × (cause wish events n ≡ Hole below above)
     × IsNextBelow (frame_numbers events) newest.meaning.number n below × IsNextAbove (frame_numbers events) n above
 
--- and if a cause is a hole, no frame of the timeline has the number
+-- if the cause of a number is a hole, no frame of the timeline has the number
 abbrev pub HolesAreNoFrames : Type 0 → Type 0
 HolesAreNoFrames S = (wish : Wish) (events : List (Event S)) (n above : ℕ) (below : Option ℕ) → cause wish events n ≡ Hole below above
     → IsMember n (frame_numbers events) → ⊥

@@ -1,5 +1,5 @@
--- The decisions of selection in words, and the laws that tie the rules to them: when a target is closed, what a frame opens, and what
--- each verdict claims. Own statements, over AV1 RTP payload format, Appendix A. The rules are tests that compute, as the code's are.
+-- The decisions of selection in words, and the laws that connect the rules with them: when a target is closed, what a frame opens, and what
+-- each verdict says. Own statements, over AV1 RTP payload format, Appendix A. The rules are tests that compute, like those of the code.
 use Rattle.std.specs.Prelude.{◌≡◌, ◌≢◌, ◌⊎◌, ◌+◌, ◌<◌, ◌≤◌, ℕ, List, [], ◌∷◌, ◌++◌, Bool, true, false}
 use Rattle.std.specs.List.{AllByRecursion}
 use Rattle.std.specs.declared.option.Option.{Option}
@@ -19,9 +19,9 @@ use Rattle.forwarding_model.specs.forwarding.Standing.{Standing, has_passed, key
 use Rattle.forwarding_laws.specs.forwarding.Restart.{BreaksAt}
 use Rattle.forwarding_laws.specs.forwarding.Since.{EachFrameSince}
 
--- ---- where a target is closed
+-- ---- when a target is closed
 
--- the target's chain names, in f, the opening frame or a later one, and that frame wasn't passed
+-- f's link in the target's chain names the opening frame or a later frame, and the named frame wasn't passed
 pub record IsBrokenLink (has : ℕ → Bool) (f : FrameMeaning) (target opened : ℕ) : Type 0 where
   pub chains : 0 < f.chain_count
   pub link : 0 < chain_link f target
@@ -38,18 +38,18 @@ abbrev pub BrokenLinksClose : Type 0
 BrokenLinksClose = (has : ℕ → Bool) (f : FrameMeaning) (target opened : ℕ) → IsBrokenLink has f target opened
     → (number : ℕ) × (number + chain_link f target ≡ f.number) × (target_after_link has f (Open target opened) ≡ Closed (BrokenLink f.number number))
 
--- and no other link closes it
+-- a link that isn't broken doesn't close the target
 abbrev pub OtherLinksKeep : Type 0
 OtherLinksKeep = (has : ℕ → Bool) (f : FrameMeaning) (target opened : ℕ) → (IsBrokenLink has f target opened → ⊥)
     → target_after_link has f (Open target opened) ≡ Open target opened
 
--- so if the target is open, the mask of f has it, and its link is broken, the chain is found broken at f
+-- if the target is open, the mask of f has it, and its link is broken, then the chain is found broken at f
 abbrev pub BrokenLinksBreak : Type 0
 BrokenLinksBreak = (s : Standing) (f : FrameMeaning) (target opened : ℕ) → IsOpenAt s f target opened → is_active f target ≡ true
     → IsBrokenLink (has_passed s f) f target opened → BreaksAt s f
 
--- Why a target is closed at f: its link is broken and names the frame with this number; or f is of another epoch; or the mask of f lacks
--- the target.
+-- The rules at f close a target for this reason. `BrokenLink`: the target's link is broken and names the frame with this number. `NotOpened`: f
+-- is of another epoch, or the mask of f lacks the target.
 abbrev pub ClosesAt : Standing → FrameMeaning → Reason → Type 0
 ClosesAt s f (BrokenLink at number) =
     (at ≡ f.number) × (target : ℕ) × (opened : ℕ) × IsOpenAt s f target opened × (is_active f target ≡ true)
@@ -61,7 +61,7 @@ ClosesAt s f (NotOpened since) =
 abbrev pub ClosesNone : Standing → FrameMeaning → Type 0
 ClosesNone s f = (reason : Reason) → ClosesAt s f reason → ⊥
 
--- A frame of the timeline closed the target for this reason. It was the last frame to close a target, and no frame passed since.
+-- A frame of the timeline closed the target for this reason. It was the last frame that closed a target, and no frame has passed since.
 pub record WasClosedFor {S : Type 0} (wish : Wish) (events : List (Event S)) (reason : Reason) : Type 0 where
   pub since : List (Event S)
   pub frame : Frame S
@@ -71,14 +71,14 @@ pub record WasClosedFor {S : Type 0} (wish : Wish) (events : List (Event S)) (re
   pub none_passed : (standing wish events).passed ≡ (standing wish past).passed
   pub last : EachFrameSince (λ before later. ClosesNone (standing wish before) later.meaning) since (WholeFrame frame ∷ past)
 
--- once a frame has come, a target is closed for the reason that it has
+-- after the first frame, a closed target was closed for the reason that it records
 abbrev pub ReasonsHold : Type 0 → Type 0
 ReasonsHold S = (wish : Wish) (events : List (Event S)) (reason : Reason) → frames_of events ≢ [] → (standing wish events).target ≡ Closed reason
     → WasClosedFor wish events reason
 
 -- ---- what a frame opens
 
--- no target is open; or the open one isn't allowed, or the other is better
+-- no target is open, or the open one isn't allowed, or the other one is better
 abbrev pub IsUpgrade : Wish → FrameMeaning → CurrentTarget → ℕ → Type 0
 IsUpgrade wish f (Open target opened) other = (is_allowed wish f target ≡ false) ⊎ IsBetter f other target
 IsUpgrade wish f (Closed reason) other = Unit {0}
@@ -92,14 +92,14 @@ pub record CanOpen (has : ℕ → Bool) (key_passed : Bool) (wish : Wish) (f : F
   pub keyed : (f.key ≡ true) ⊎ (key_passed ≡ true)
   pub upgrade : IsUpgrade wish f current target
 
--- a frame can open what it opens, and each other target that it can open is worse
+-- a frame can open the target that it opens, and every other target that it can open is worse
 abbrev pub OpensTheBest : Type 0
 OpensTheBest = (has : ℕ → Bool) (key_passed : Bool) (wish : Wish) (f : FrameMeaning) (current : CurrentTarget) (target : ℕ)
     → opening has key_passed wish f current ≡ Some target
     → CanOpen has key_passed wish f current target
     × ((other : ℕ) → CanOpen has key_passed wish f current other → (other ≡ target) ⊎ IsBetter f target other)
 
--- a frame that opens nothing can open nothing
+-- a frame that opens no target can open none
 abbrev pub OpensWhatItCan : Type 0
 OpensWhatItCan = (has : ℕ → Bool) (key_passed : Bool) (wish : Wish) (f : FrameMeaning) (current : CurrentTarget) (target : ℕ)
     → opening has key_passed wish f current ≡ None → CanOpen has key_passed wish f current target → ⊥
@@ -108,14 +108,14 @@ abbrev pub IsInTarget : FrameMeaning → CurrentTarget → Type 0
 IsInTarget f (Open target opened) = (is_active f target ≡ true) × (is_present f target ≡ true)
 IsInTarget f (Closed reason) = ⊥
 
--- a frame that passes is present in a target that its mask has
+-- a frame that passes is present in a target whose bit is set in its mask
 abbrev pub PassesInTarget : Type 0
 PassesInTarget = (has : ℕ → Bool) (key_passed : Bool) (wish : Wish) (f : FrameMeaning) (current : CurrentTarget) (queued packets : ℕ)
     → passes has key_passed wish f current queued packets ≡ true → IsInTarget f (candidate has key_passed wish f current)
 
--- ---- what each verdict claims
+-- ---- what each verdict says
 
--- the first reference of f that wasn't passed is d numbers back
+-- the first reference of f that wasn't passed is the one d numbers back
 pub record IsFirstMissing (has : ℕ → Bool) (f : FrameMeaning) (d : ℕ) : Type 0 where
   pub before : List ℕ
   pub behind : List ℕ
@@ -126,7 +126,7 @@ pub record IsFirstMissing (has : ℕ → Bool) (f : FrameMeaning) (d : ℕ) : Ty
 abbrev pub IsComplete : Standing → FrameMeaning → Type 0
 IsComplete s f = AllByRecursion (λ d. has_passed s f d ≡ true) (references f)
 
--- f opens nothing, and no target is open, for this reason
+-- f opens no target, and none is open, for this reason
 pub record IsClosedAt (s : Standing) (f : FrameMeaning) (reason : Reason) : Type 0 where
   pub kept : kept_target_at s f ≡ Closed reason
   pub opens_none : (target : ℕ) → CanOpen (has_passed s f) (key_passed s f) s.wish f (kept_target_at s f) target → ⊥
@@ -175,6 +175,6 @@ abbrev pub UnopenedClaims : Type 0
 UnopenedClaims = (s : Standing) (f : FrameMeaning) (packets since : ℕ) → verdict_at s f packets ≡ Unopened since
     → IsOfTarget s f × IsComplete s f × IsClosedAt s f (NotOpened since)
 
--- a frame that came is no hole
+-- the verdict on a frame is never a hole
 abbrev pub NoFrameIsAHole : Type 0
 NoFrameIsAHole = (s : Standing) (f : FrameMeaning) (packets above : ℕ) (below : Option ℕ) → verdict_at s f packets ≡ Hole below above → ⊥

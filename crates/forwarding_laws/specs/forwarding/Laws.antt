@@ -1,5 +1,5 @@
--- The laws of forwarding, over every timeline: own statements. The laws that tie a definition to its words are next to those words.
--- S is the type of template dependency structures.
+-- The laws of forwarding, for every timeline: own statements. A law that connects a definition with its terms is next to those terms. S is the
+-- type of template dependency structures.
 use Rattle.std.specs.Prelude.{◌≡◌, ◌≢◌, ◌+◌, ◌<◌, ◌≤◌, ℕ, List, ◌∷◌, ◌++◌, Bool, true, false, length}
 use Rattle.std.specs.List.{AllByRecursion}
 use Rattle.std.specs.declared.option.Option.TheVariants.{Some}
@@ -22,7 +22,7 @@ use Rattle.forwarding_model.specs.forwarding.Outgoing.{Sender, Subscriber, outgo
 use Rattle.forwarding_model.specs.frames.Reading.{Format}
 use Rattle.forwarding_laws.specs.frames.WholeFrames.{IsWholeFrame, IsSentWhole, KeepsWhole}
 
--- each frame that passed is decodable in the passed frames of its epoch
+-- each frame that passed is decodable from the passed frames of its epoch
 abbrev pub AreDecodable : Type 0 → Type 0
 AreDecodable S = (wish : Wish) (events : List (Event S))
     → AllByRecursion (λ f. IsDecodable (of_epoch f.epoch (standing wish events).passed) f) (standing wish events).passed
@@ -32,7 +32,7 @@ abbrev pub RestartsAtOnce : Type 0 → Type 0
 RestartsAtOnce S = (wish : Wish) (past : List (Event S)) (f : FrameMeaning) (packets : ℕ) → BreaksAt (standing wish past) f
     → passes_at (standing wish past) f packets ≡ true → IsRestart (standing wish past) f
 
--- if a chain is found broken at a frame, and nothing passed since, the next frame that passes is a restart
+-- if a chain is found broken at a frame, and no frame has passed since, the next frame that passes is a restart
 abbrev pub RestartsLater : Type 0 → Type 0
 RestartsLater S = (wish : Wish) (past since : List (Event S)) (frame : Frame S) (f : FrameMeaning) (packets : ℕ) → BreaksAt (standing wish past) frame.meaning
     → (standing wish (since ++ WholeFrame frame ∷ past)).passed ≡ (standing wish past).passed
@@ -43,12 +43,12 @@ abbrev pub EndsAtRoot : Type 0 → Type 0
 EndsAtRoot S = (wish : Wish) (events : List (Event S)) (n : ℕ) → IsOneTrack (meanings_of events) → IsWithheld wish events n
     → IsPath (path (cause wish events) n)
 
--- and so does the path of each number whose cause isn't `Passed`
+-- the path of each number whose cause isn't `Passed` ends at a root too
 abbrev pub EndsAtRootUnpassed : Type 0 → Type 0
 EndsAtRootUnpassed S = (wish : Wish) (events : List (Event S)) (n : ℕ) → IsOneTrack (meanings_of events) → cause wish events n ≢ Passed
     → IsPath (path (cause wish events) n)
 
--- a frame that came and didn't pass is withheld, whatever came since
+-- a frame that arrived and didn't pass is withheld, whatever came later
 abbrev pub UnpassedAreWithheld : Type 0 → Type 0
 UnpassedAreWithheld S = (wish : Wish) (frame : Frame S) (since past : List (Event S))
     → passes_at (standing wish past) frame.meaning (length frame.packets) ≡ false
@@ -75,23 +75,23 @@ PathsTellCauses S = (wish : Wish) (events : List (Event S)) (n : ℕ) → TellsC
 abbrev pub AreNumberedInOrder : Type 0 → Type 0
 AreNumberedInOrder S = (send : Sender S) (subscriber : Subscriber) (events : List (Event S)) → AreConsecutive (outgoing send subscriber events)
 
--- whatever comes, what was forwarded stays as it was, and more follows it
+-- whatever happens, forwarded packets stay the same, and later ones are appended
 abbrev pub OnlyGrows : Type 0 → Type 0
 OnlyGrows S = (send : Sender S) (subscriber : Subscriber) (since past : List (Event S))
     → (more : List Packet) × (outgoing send subscriber (since ++ past) ≡ outgoing send subscriber past ++ more)
 
--- A retransmission of a taken packet's number returns that packet, whatever came since, if it is among the last 1,024 taken.
+-- If a taken packet is among the last 1,024 taken ones, a retransmission of its number returns that packet, whatever came later.
 abbrev pub ResendsFirstBytes : Type 0 → Type 0
 ResendsFirstBytes S = (send : Sender S) (subscriber : Subscriber) (past since : List (Event S)) (packet : Packet)
     → next_packet send subscriber past ≡ Some packet → takes_of (since ++ Take ∷ past) ≤ takes_of past + 1024
     → resent send subscriber (since ++ Take ∷ past) packet.sequence_number ≡ Some packet
 
--- and a retransmission returns a kept packet with that number
+-- a retransmission returns a kept packet with the requested number
 abbrev pub ResendsKept : Type 0 → Type 0
 ResendsKept S = (send : Sender S) (subscriber : Subscriber) (events : List (Event S)) (n : ℕ) (packet : Packet) → resent send subscriber events n ≡ Some packet
     → IsMember packet (kept send subscriber events) × (packet.sequence_number ≡ n)
 
--- a standing's number of queued packets is that of the packets that weren't taken
+-- a standing's number of queued packets is the number of forwarded packets that weren't taken
 abbrev pub QueuesTheRest : Type 0 → Type 0
 QueuesTheRest S = (send : Sender S) (subscriber : Subscriber) (events : List (Event S)) → KeepsCount send → FindPackets send subscriber events
     → (standing subscriber.wish events).queued ≡ length (queue send subscriber events)
@@ -100,11 +100,11 @@ QueuesTheRest S = (send : Sender S) (subscriber : Subscriber) (events : List (Ev
 abbrev pub MarkingKeepsWhole : Type 0 → Type 0
 MarkingKeepsWhole S = (format : Format S) (frame : Frame S) → IsWholeFrame format frame → IsSentWhole format send_marked frame
 
--- so it is a sender for which the laws over histories hold
+-- setting that marker is a sender for which the laws over histories hold
 abbrev pub MarkingIsASender : Type 0 → Type 0
 MarkingIsASender S = (format : Format S) → KeepsWhole format send_marked
 
--- and one that keeps the number of packets
+-- setting that marker keeps the number of packets
 abbrev pub MarkingKeepsCount : Type 0 → Type 0
 MarkingKeepsCount S = KeepsCount {S = S} send_marked
 
@@ -126,14 +126,14 @@ abbrev pub PassesWherePassed : Type 0
 PassesWherePassed = (has : ℕ → Bool) (key_passed : Bool) (wish : Wish) (f : FrameMeaning) (current : CurrentTarget) (queued packets : ℕ)
     → verdict has key_passed wish f current queued packets ≡ Passed → passes has key_passed wish f current queued packets ≡ true
 
--- a frame that passes opens its target; or the target was open before, and its chain names, in the frame, no frame since the opening one
--- that wasn't passed
+-- A frame that passes opens its target, or the target was open before. In the second case, if the frame's link in its chain names the opening
+-- frame or a later one, the named frame was passed.
 abbrev pub PassesLinked : Type 0
 PassesLinked = (has : ℕ → Bool) (key_passed : Bool) (wish : Wish) (f : FrameMeaning) (current : CurrentTarget) (queued packets : ℕ)
     → passes has key_passed wish f current queued packets ≡ true
     → IsOpenAndLinked has key_passed wish f current (candidate has key_passed wish f current)
 
--- two tests that agree on the frames that a frame names lead to the same decisions
+-- if two tests agree on the frames that a frame names, they lead to the same decisions
 abbrev pub KeepAlike : Type 0
 KeepAlike = (p q : ℕ → Bool) (f : FrameMeaning) (current : CurrentTarget) → Agree p q f → kept_target p f current ≡ kept_target q f current
 

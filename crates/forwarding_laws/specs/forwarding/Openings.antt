@@ -1,4 +1,4 @@
--- Which frame opened a target that is open, in words. Own statements.
+-- Which frame opened an open target, in words. Own statements.
 use Rattle.std.specs.Prelude.{◌≡◌, ◌⊎◌, ℕ, List, ◌∷◌, ◌++◌, Bool, true, length}
 use Rattle.std.specs.declared.option.Option.TheVariants.{None, Some}
 use Rattle.sfu_base.specs.declared.frame.FrameMeaning.{FrameMeaning}
@@ -15,7 +15,7 @@ use Rattle.forwarding_laws.specs.forwarding.Decisions.{CanOpen, ClosesNone}
 
 -- ---- the candidate
 
--- if f opens nothing, the candidate is the target after f's closing rules, with its opening frame
+-- if f opens no target, the candidate is the target after the closing rules at f, with its opening frame
 abbrev pub NothingOpenedIsKept : Type 0
 NothingOpenedIsKept = (has : ℕ → Bool) (key_passed : Bool) (wish : Wish) (f : FrameMeaning) (current : CurrentTarget)
     → opening has key_passed wish f (kept_target has f current) ≡ None → candidate has key_passed wish f current ≡ kept_target has f current

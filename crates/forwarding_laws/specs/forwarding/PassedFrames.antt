@@ -1,5 +1,5 @@
--- Which frames count as passed when a frame comes, in words, for frames of one track. Own statements. A standing has a list that another
--- epoch empties, and the code has a window and a flag. Here the words are about all frames that passed.
+-- Which frames count as passed when a frame arrives, in words, for frames of one track. Own statements. A standing has a list that the first
+-- frame of another epoch empties; the code has a window and a flag. The statements here are about all frames that passed.
 use Rattle.std.specs.Prelude.{◌≡◌, ◌↔◌, ◌+◌, ℕ, List, ◌∷◌, true}
 use Rattle.sfu_base.specs.declared.frame.FrameMeaning.{FrameMeaning}
 use Rattle.sfu_base.specs.declared.frame.Wish.{Wish}
@@ -9,7 +9,7 @@ use Rattle.forwarding_model.specs.frames.TrackFrames.{IsOneTrack}
 use Rattle.forwarding_model.specs.forwarding.Decodable.{of_epoch}
 use Rattle.forwarding_model.specs.forwarding.Standing.{passed_at, has_passed, key_passed, standing}
 
--- when f comes next, the frames that count as passed are exactly those frames of f's epoch that passed
+-- if f is the next frame, the frames that count as passed are exactly the frames of f's epoch that passed
 abbrev pub EpochsFramesCount : Type 0 → Type 0
 EpochsFramesCount S = (wish : Wish) (events : List (Event S)) (f : FrameMeaning) → IsOneTrack (f ∷ meanings_of events)
     → passed_at (standing wish events) f ≡ of_epoch f.epoch (standing wish events).passed
@@ -20,7 +20,7 @@ HasPassedInWords S = (wish : Wish) (events : List (Event S)) (f : FrameMeaning) 
     → (has_passed (standing wish events) f d ≡ true)
     ↔ ((g : FrameMeaning) × IsMember g (standing wish events).passed × (g.epoch ≡ f.epoch) × (g.number + d ≡ f.number))
 
--- and the epoch's key frame counts as passed exactly if a key frame of f's epoch passed, however far back
+-- the epoch's key frame counts as passed exactly if a key frame of f's epoch passed, at any distance
 abbrev pub KeyPassedInWords : Type 0 → Type 0
 KeyPassedInWords S = (wish : Wish) (events : List (Event S)) (f : FrameMeaning) → IsOneTrack (f ∷ meanings_of events)
     → (key_passed (standing wish events) f ≡ true)

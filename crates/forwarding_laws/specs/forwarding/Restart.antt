@@ -1,5 +1,5 @@
--- What may pass by the chains: on an open target only what its chain leads to, and once a chain was found broken, a restart. Own rules,
--- over AV1 RTP payload format, Appendix A (chains). The code keeps a window of passed numbers.
+-- Which frames may pass because of the chains: on an open target only frames that are linked by its chain, and after a broken chain only a
+-- restart. Own rules, over AV1 RTP payload format, Appendix A (chains). The code keeps a window of passed numbers.
 use Rattle.std.specs.Prelude.{◌≡◌, ◌⊎◌, ◌+◌, ◌<◌, ◌≤◌, ℕ, Bool, true}
 use Rattle.std.specs.declared.option.Option.TheVariants.{None, Some}
 use Rattle.sfu_base.specs.declared.frame.FrameMeaning.{FrameMeaning}
@@ -10,7 +10,7 @@ use Rattle.forwarding_model.specs.forwarding.Targets.{is_switch}
 use Rattle.forwarding_model.specs.forwarding.Selection.{missing_reference, chain_link, target_under_mask, kept_target, opening}
 use Rattle.forwarding_model.specs.forwarding.Standing.{Standing, target_at, has_passed, key_passed, kept_target_at}
 
--- where the target's chain links f to the opening frame or a later one, that frame was passed
+-- if the target's chain links f to the opening frame or a later frame, that frame was passed
 abbrev pub IsLinked : (ℕ → Bool) → FrameMeaning → ℕ → ℕ → Type 0
 IsLinked has f target opened = 0 < f.chain_count → 0 < chain_link f target → opened + chain_link f target ≤ f.number
     → has (chain_link f target) ≡ true
@@ -27,7 +27,7 @@ WasClosed (Open target opened) (Closed reason) = Unit {0}
 WasClosed (Open target opened) (Open later reopened) = ⊥
 WasClosed (Closed reason) after = ⊥
 
--- The rule on the link closes the target at f: after the rules on the epoch and the mask it was open, and after that on the link it isn't.
+-- The rule on the link closes the target at f: the target is open after the rules on the epoch and the mask, and isn't open after the rule on the link.
 abbrev pub BreaksAt : Standing → FrameMeaning → Type 0
 BreaksAt s f = WasClosed (target_under_mask f (target_at s f)) (kept_target_at s f)
 

@@ -1,5 +1,5 @@
--- How a standing changes, in words: what a frame leaves of the target, and how each event changes a standing. Own statements, over AV1
--- RTP payload format, Appendix A (active_decode_targets_bitmask, chains).
+-- How a standing changes, in words: the target after a frame, and the standing after each event. Own statements, over AV1 RTP payload format,
+-- Appendix A (active_decode_targets_bitmask, chains).
 use Rattle.std.specs.Prelude.{◌≡◌, ◌≢◌, ◌+◌, ◌-◌, ◌<◌, ◌≤◌, ℕ, List, [], ◌∷◌, true, false, length}
 use Rattle.std.specs.declared.option.Option.TheVariants.{None, Some}
 use Rattle.sfu_base.specs.declared.frame.FrameMeaning.{FrameMeaning}
@@ -14,18 +14,18 @@ use Rattle.forwarding_model.specs.forwarding.Timeline.Event.{WholeFrame, PlainPa
 use Rattle.forwarding_model.specs.forwarding.Standing.{Standing, passed_at, has_passed, kept_target_at, candidate_at, passes_at, standing}
 use Rattle.forwarding_laws.specs.forwarding.Decisions.{IsBrokenLink, IsOpenAt, ClosesAt, ClosesNone}
 
--- ---- what a frame leaves of the target
+-- ---- the target after a frame
 
--- at a frame of another epoch nothing was passed of it, and no target is open since that frame
+-- at a frame of another epoch, no frame of that epoch was passed yet, and no target is open since that frame
 abbrev pub OtherEpochsBeginAnew : Type 0
 OtherEpochsBeginAnew = (s : Standing) (f : FrameMeaning) → s.epoch ≢ Some f.epoch
     → (passed_at s f ≡ []) × (kept_target_at s f ≡ Closed (NotOpened f.number))
 
--- within an epoch, all frames of it that passed count
+-- within an epoch, all frames of the epoch that passed count
 abbrev pub EpochsGoOn : Type 0
 EpochsGoOn = (s : Standing) (f : FrameMeaning) → s.epoch ≡ Some f.epoch → passed_at s f ≡ s.epoch_passed
 
--- an open target that the mask of f lacks is closed, since f
+-- an open target that the mask of f lacks is closed at f
 abbrev pub MasksClose : Type 0
 MasksClose = (s : Standing) (f : FrameMeaning) (target opened : ℕ) → IsOpenAt s f target opened → is_active f target ≡ false
     → kept_target_at s f ≡ Closed (NotOpened f.number)
@@ -36,7 +36,7 @@ LinksClose = (s : Standing) (f : FrameMeaning) (target opened number : ℕ) → 
     → IsBrokenLink (has_passed s f) f target opened → number + chain_link f target ≡ f.number
     → kept_target_at s f ≡ Closed (BrokenLink f.number number)
 
--- and any other target stays open, with its opening frame
+-- a target with a link that isn't broken stays open, with its opening frame
 abbrev pub OtherTargetsStay : Type 0
 OtherTargetsStay = (s : Standing) (f : FrameMeaning) (target opened : ℕ) → IsOpenAt s f target opened → is_active f target ≡ true
     → (IsBrokenLink (has_passed s f) f target opened → ⊥) → kept_target_at s f ≡ Open target opened
@@ -46,17 +46,17 @@ abbrev pub ClosedTargetsStay : Type 0
 ClosedTargetsStay = (s : Standing) (f : FrameMeaning) (reason : Reason) → s.epoch ≡ Some f.epoch → s.target ≡ Closed reason
     → kept_target_at s f ≡ Closed reason
 
--- in short: a frame that closes a target leaves it closed for that reason
+-- a frame that closes a target for a reason leaves it closed for this reason
 abbrev pub ClosingFramesClose : Type 0
 ClosingFramesClose = (s : Standing) (f : FrameMeaning) (reason : Reason) → ClosesAt s f reason → kept_target_at s f ≡ Closed reason
 
--- and one that closes none leaves the target as it is
+-- a frame that closes no target leaves the target as it is
 abbrev pub OtherFramesKeep : Type 0
 OtherFramesKeep = (s : Standing) (f : FrameMeaning) → ClosesNone s f → kept_target_at s f ≡ s.target
 
 -- ---- how an event changes a standing
 
--- f passed: it is the newest of what passed, of its epoch and in all; the candidate is the target; its packets are queued
+-- f passed: it is the newest passed frame, of its epoch and of all; its candidate is the target; its packets are queued
 pub record TakesIn (before : Standing) (f : FrameMeaning) (packets : ℕ) (after : Standing) : Type 0 where
   pub epoch : after.epoch ≡ Some f.epoch
   pub epoch_passed : after.epoch_passed ≡ f ∷ (passed_at before f)
@@ -65,7 +65,7 @@ pub record TakesIn (before : Standing) (f : FrameMeaning) (packets : ℕ) (after
   pub queued : after.queued ≡ before.queued + packets
   pub wish : after.wish ≡ before.wish
 
--- f didn't pass: the epoch is f's, and the target is what f leaves of it; nothing else came
+-- f didn't pass: the epoch is f's, the target is the one after the closing rules at f, and nothing else changed
 pub record Withholds (before : Standing) (f : FrameMeaning) (after : Standing) : Type 0 where
   pub epoch : after.epoch ≡ Some f.epoch
   pub epoch_passed : after.epoch_passed ≡ passed_at before f

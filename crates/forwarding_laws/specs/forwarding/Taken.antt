@@ -10,7 +10,7 @@ abbrev pub and_last : List Packet → Option Packet → List Packet
 and_last packets None = packets
 and_last packets (Some packet) = packets ++ packet ∷ []
 
--- what the takes returned, one after another: each the packet that was next
+-- the packets that the takes returned, in order: each take returned the packet that was next
 abbrev pub given : {S : Type 0} → Sender S → Subscriber → List (Event S) → List Packet
 given send subscriber [] = []
 given send subscriber (WholeFrame frame ∷ past) = given send subscriber past
@@ -34,7 +34,7 @@ abbrev pub NextHasNextNumber : Type 0 → Type 0
 NextHasNextNumber S = (send : Sender S) (subscriber : Subscriber) (events : List (Event S)) (packet : Packet)
     → next_packet send subscriber events ≡ Some packet → packet.sequence_number ≡ next_number send subscriber events
 
--- from the oldest number on, as many numbers are kept as packets, and the next number follows them
+-- the oldest number plus the number of kept packets is the next number, modulo 65,536
 abbrev pub OldestIsKept : Type 0 → Type 0
 OldestIsKept S = (send : Sender S) (subscriber : Subscriber) (events : List (Event S))
     → (oldest_number send subscriber events + length (kept send subscriber events)) % 65536 ≡ next_number send subscriber events
@@ -46,7 +46,7 @@ OldestIsTold S = (send : Sender S) (subscriber : Subscriber) (events : List (Eve
     × ((packet : Packet) (packets : List Packet) → kept send subscriber events ≡ packet ∷ packets
     → oldest_number send subscriber events ≡ packet.sequence_number)
 
--- a number outside the kept ones isn't retransmitted, and each kept one is
+-- exactly the packets with the kept numbers are retransmitted
 abbrev pub ResendsTheKeptNumbers : Type 0 → Type 0
 ResendsTheKeptNumbers S = (send : Sender S) (subscriber : Subscriber) (events : List (Event S)) (i : ℕ)
     → (i < length (kept send subscriber events) → resent send subscriber events ((oldest_number send subscriber events + i) % 65536) ≢ None)

@@ -1,5 +1,5 @@
--- What each verdict says of a frame, in words, and that the verdict on a frame is the one that is true. Own statements. The definition
--- is a chain of tests, of which the first that applies decides; here no verdict depends on another.
+-- What each verdict says about a frame, in words, and the law that exactly the verdict on a frame is true. Own statements. The definition is a
+-- chain of tests, of which the first that applies decides; here no verdict depends on another.
 use Rattle.std.specs.Prelude.{◌≡◌, ◌↔◌, ◌+◌, ◌<◌, ◌≤◌, ℕ, true, false}
 use Rattle.std.specs.declared.option.Option.TheVariants.{None, Some}
 use Rattle.sfu_base.specs.declared.frame.FrameMeaning.{FrameMeaning}
@@ -23,7 +23,7 @@ Says s f packets (NotOfTarget (Some target)) = (is_present f target ≡ false) �
 -- f is present in its target, and its first reference that wasn't passed lies below the epoch's start
 Says s f packets (Behind fdiff start) =
     IsOfTarget s f × IsFirstMissing (has_passed s f) f fdiff × (start ≡ f.start) × (f.number < f.start + fdiff)
--- or that reference is this frame, of the epoch
+-- f is present in its target, and its first reference that wasn't passed is this frame of the epoch
 Says s f packets (Reference number) =
     IsOfTarget s f × ((d : ℕ) × IsFirstMissing (has_passed s f) f d × (f.start + d ≤ f.number) × (number + d ≡ f.number))
 -- a target is open, f is present in it, its references were passed, and the queue lacks space
@@ -32,13 +32,13 @@ Says s f packets (Full queued needed) =
 -- f is present in its target, its references were passed, and no target is open, for this reason
 Says s f packets (Link at number) = IsOfTarget s f × IsComplete s f × IsClosedAt s f (BrokenLink at number)
 Says s f packets (Unopened since) = IsOfTarget s f × IsComplete s f × IsClosedAt s f (NotOpened since)
--- a frame that came is no hole
+-- the verdict on a frame is never a hole
 Says s f packets (Hole below above) = ⊥
 
--- what the verdict on f says is true, and what any other verdict says is false
+-- the verdict on f is true, and every other verdict is false
 abbrev pub VerdictsSayWhatIsSo : Type 0
 VerdictsSayWhatIsSo = (s : Standing) (f : FrameMeaning) (packets : ℕ) (v : Verdict) → (verdict_at s f packets ≡ v) ↔ Says s f packets v
 
--- and f passes exactly when what `Passed` says is true
+-- f passes exactly if the verdict `Passed` is true
 abbrev pub PassingInWords : Type 0
 PassingInWords = (s : Standing) (f : FrameMeaning) (packets : ℕ) → (passes_at s f packets ≡ true) ↔ Says s f packets Passed

@@ -1,6 +1,6 @@
--- What a track's items make, in words: what each item is, what is in force, and which items end a frame of which meaning.
--- Own statements, over AV1 RTP payload format, section 4.4 and Appendix A. `Frames` makes frames item by item. The laws here say that, of
--- the whole list, it makes exactly these frames.
+-- What the items of a track make, in words: what each item is, what is in force, and which items end a frame with which meaning. Own
+-- statements, over AV1 RTP payload format, section 4.4 and Appendix A. `Frames` makes frames item by item. The laws here say that these are
+-- exactly the frames of the whole list.
 use Rattle.std.specs.Prelude.{◌≡◌, ◌≢◌, ◌⊎◌, ◌+◌, ◌/◌, ◌%◌, ◌^◌, ◌<◌, ℕ, List, [], ◌∷◌, true, false, if◌then◌else◌, map}
 use Rattle.std.specs.declared.option.Option.{Option}
 use Rattle.std.specs.declared.option.Option.TheVariants.{None, Some}
@@ -66,8 +66,8 @@ start_number format items = (state_after format items).force.start
 abbrev pub BeginsNoEpoch : {S : Type 0} → Format S → Item → List Item → Type 0
 BeginsNoEpoch format item past = (d : Descriptor _) → said_by format (structure_of (said format past)) item ≡ Some d → is_key_start d ≡ false
 
--- If the newest item makes a frame, that frame's number is the newest. If it makes none but carries a key start, the new epoch's number is
--- the newest. If it does neither, the newest number stays, whatever is torn. Only a key start changes the epoch's start.
+-- If the newest item makes a frame, that frame's number is the newest. If it makes none but carries a key start, the number of the new epoch's
+-- start is the newest. Otherwise the newest number stays the same, even if a frame is torn. Only a key start changes the epoch's start.
 pub record NumbersGoOn {S : Type 0} (format : Format S) (item : Item) (past : List Item) : Type 0 where
   pub frame : (frame : Frame S) → frames_since format past (item ∷ []) ≡ frame ∷ [] → newest_number format (item ∷ past) ≡ frame.meaning.number
   pub key_start : (d : Descriptor S) → frames_since format past (item ∷ []) ≡ [] → said_by format (structure_of (said format past)) item ≡ Some d
@@ -78,7 +78,7 @@ pub record NumbersGoOn {S : Type 0} (format : Format S) (item : Item) (past : Li
 abbrev pub TheNewestIsTheLast : Type 0 → Type 0
 TheNewestIsTheLast S = (format : Format S) (item : Item) (past : List Item) → NumbersGoOn format item past
 
--- how the newest descriptor sets the mask: to its own, or to all targets of the structure that it carries, or not at all
+-- how the newest descriptor sets the mask: to its own mask, or to all targets of the structure that it carries, or not at all
 pub record MaskIsSaid {S : Type 0} (format : Format S) (d : Descriptor S) (past : List (Descriptor S)) : Type 0 where
   pub own : (mask : ℕ) → d.mask ≡ Some mask → mask_of format (d ∷ past) ≡ mask
   pub all : (s : S) → d.mask ≡ None → d.structure ≡ Some s → mask_of format (d ∷ past) ≡ all_targets (format.layout s)
@@ -87,12 +87,12 @@ pub record MaskIsSaid {S : Type 0} (format : Format S) (d : Descriptor S) (past 
 abbrev pub MasksAreSaid : Type 0 → Type 0
 MasksAreSaid S = (format : Format S) (d : Descriptor S) (past : List (Descriptor S)) → MaskIsSaid format d past
 
--- all targets: each bit below the count is set, and no other
+-- the mask of all targets has exactly the bits below the count set
 abbrev pub AllTargetsAreActive : Type 0
 AllTargetsAreActive = (layout : Layout)
     → ((target : ℕ) → target < layout.target_count → all_targets layout / 2 ^ target % 2 ≡ 1) × (all_targets layout < 2 ^ layout.target_count)
 
--- structure, mask and epoch in force are those of what was read
+-- structure, mask and epoch in force are those of the descriptors that were read
 pub record IsInForceBy {S : Type 0} (format : Format S) (items : List Item) : Type 0 where
   pub structure : (state_after format items).force.structure ≡ structure_of (said format items)
   pub mask : (state_after format items).force.mask ≡ mask_of format (said format items)
@@ -101,7 +101,7 @@ pub record IsInForceBy {S : Type 0} (format : Format S) (items : List Item) : Ty
 abbrev pub WhatWasReadIsInForce : Type 0 → Type 0
 WhatWasReadIsInForce S = (format : Format S) (items : List Item) → IsInForceBy format items
 
--- a key start of the first epoch has its own number; a later one has the least above the newest that equals its own modulo 65,536
+-- the key start of the first epoch has its own number; a later one has the least number above the newest that equals its own number modulo 65,536
 abbrev pub KeyStartsAreNumbered : Type 0 → Type 0
 KeyStartsAreNumbered S = (format : Format S) (item : Item) (past : List Item) (d : Descriptor S) → said_by format (structure_of (said format past)) item
     ≡ Some d
@@ -123,7 +123,7 @@ abbrev pub IsPaddingOf : {S : Type 0} → Format S → Item → Type 0
 IsPaddingOf format Missing = ⊥
 IsPaddingOf format (Arrived packet) = format.payload packet.rest ≡ Empty
 
--- missing numbers that were given up; a packet with an empty payload; any other packet that is no part; a part
+-- the mark of an item: numbers that were given up; a packet with an empty payload; any other packet that isn't a part; or a part
 abbrev pub IsMarkOf : {S : Type 0} → Format S → Option S → Item → Mark (ReadPacket S) → Type 0
 IsMarkOf format force item Gone = item ≡ Missing
 IsMarkOf format force item Padding = IsPaddingOf format item
@@ -156,7 +156,7 @@ pub record IsMeaningOf {S : Type 0} (format : Format S) (item : Item) (past : Li
   pub ref_count : f.ref_count ≡ d.ref_count
   pub refs : f.refs ≡ d.refs
 
--- what the structure says of targets and chains
+-- the targets and chains of the meaning are those of the structure
 pub record IsLaidOutBy {S : Type 0} (format : Format S) (s : S) (f : FrameMeaning) : Type 0 where
   pub targets : f.target_count ≡ (format.layout s).target_count
   pub pairs : f.pairs ≡ (format.layout s).pairs
@@ -171,7 +171,7 @@ pub record IsFrameOf {S : Type 0} (format : Format S) (item : Item) (past : List
   pub layout : IsLaidOutBy format frame.structure frame.meaning
   pub meaning : IsMeaningOf format item past first.brings.descriptor frame.meaning
 
--- where the newest item makes a frame, it ends a whole cut, and the frame is that of the cut
+-- if the newest item makes a frame, it ends a whole cut, and the frame is that of the cut
 abbrev pub FramesAreCuts : Type 0 → Type 0
 FramesAreCuts S = (format : Format S) (item : Item) (past : List Item) (marks : List (Mark (ReadPacket S))) (frame : Frame S)
     → AreMarks format (item ∷ past) marks
@@ -179,7 +179,7 @@ FramesAreCuts S = (format : Format S) (item : Item) (past : List Item) (marks : 
     → (first : Part (ReadPacket S)) × (more : List (Part (ReadPacket S))) × IsWholeCut (first ∷ more) × EndsIn marks (first ∷ more)
     × IsFrameOf format item past first more frame
 
--- and where it ends a whole cut whose number isn't stale, it makes a frame, of that cut's packets
+-- if the newest item ends a whole cut whose number isn't stale, it makes a frame of the cut's packets
 abbrev pub CutsAreFrames : Type 0 → Type 0
 CutsAreFrames S = (format : Format S) (item : Item) (past : List Item) (marks : List (Mark (ReadPacket S))) (first : Part (ReadPacket S))
     (more : List (Part (ReadPacket S)))

@@ -1,6 +1,6 @@
--- What the packets of a whole frame guarantee to those that read them.
--- AV1 RTP payload format, section 4.4 and Appendix A. Own statement: a frame is whole under the structure with which it was read. The code
--- doesn't compute it; it is what the laws say of the frames that a track's packets make.
+-- The properties of the packets of a whole frame that a reader can rely on. AV1 RTP payload format, section 4.4 and Appendix A. Own statement:
+-- a frame is whole under the structure with which it was read. The code doesn't compute this; the laws say it about the frames that a track's
+-- packets make.
 use Rattle.std.specs.Prelude.{◌≡◌, ◌⊎◌, ◌+◌, ◌%◌, ◌<◌, ℕ, List, [], ◌∷◌, Bool, true, false, map}
 use Rattle.std.specs.List.{AllByRecursion}
 use Rattle.std.specs.declared.option.Option.{Option}
@@ -36,7 +36,7 @@ AreContinuations format s number carries count (rest ∷ more) =
     × (((d.end ≡ true) × (joins.carries ≡ false) × (more ≡ []))
     ⊎ ((d.end ≡ false) × AreContinuations format s number joins.carries (count + 1) more))
 
--- The first packet of a frame. It reads with the frame's structure in force; a key frame's reads with any in force, or none.
+-- The first packet of a frame. It can be read with the frame's structure in force. That of a key frame can be read with any structure in force, or with none.
 pub record IsFirst {S : Type 0} (format : Format S) (s : S) (f : FrameMeaning) (rest : List ℕ) (d : Descriptor S) (joins : Joins) : Type 0 where
   pub reads : (force : Option S) → (f.key ≡ true) ⊎ (force ≡ Some s) → ReadsAs format force rest d joins
   pub start : d.start ≡ true
@@ -53,7 +53,7 @@ AreWhole format s f (rest ∷ more) =
     × (((d.end ≡ true) × (joins.carries ≡ false) × (more ≡ []))
     ⊎ ((d.end ≡ false) × AreContinuations format s (f.number % 65536) joins.carries 1 more))
 
--- the packets of the frame read as that frame, whole
+-- the packets of the frame are read as that whole frame
 abbrev pub IsWholeFrame : {S : Type 0} → Format S → Frame S → Type 0
 IsWholeFrame format frame = AreWhole format frame.structure frame.meaning (map rest_of frame.packets)
 
@@ -68,11 +68,11 @@ pub record IsReadBy {S : Type 0} (format : Format S) (s : S) (f : FrameMeaning) 
 abbrev pub IsReadFrame : {S : Type 0} → Format S → Frame S → Type 0
 IsReadFrame format frame = IsReadBy format frame.structure frame.meaning
 
--- whatever the target, the packets that are sent of the frame read as that frame, whole
+-- whatever the target, the packets that are sent for the frame are read as that whole frame
 abbrev pub IsSentWhole : {S : Type 0} → Format S → Sender S → Frame S → Type 0
 IsSentWhole format send frame = (target : CurrentTarget) → AreWhole format frame.structure frame.meaning (map rest_of (send frame target))
 
--- each frame that is valid, whole, and read with a structure that was carried, is sent whole
+-- each frame that is valid and whole, and was read with a carried structure, is sent whole
 abbrev pub KeepsWhole : {S : Type 0} → Format S → Sender S → Type 0
 KeepsWhole format send = (frame : Frame _) → IsValid frame.meaning → IsReadFrame format frame → IsWholeFrame format frame → IsSentWhole format send frame
 
@@ -82,7 +82,7 @@ HaveEpochStructures [] = Unit {0}
 HaveEpochStructures (frame ∷ past) =
     AllByRecursion (λ older. older.meaning.epoch ≡ frame.meaning.epoch → older.structure ≡ frame.structure) past × HaveEpochStructures past
 
--- the frames of one track, the newest first, each whole
+-- frames of one track, each whole, the newest first
 pub record IsTrack {S : Type 0} (format : Format S) (frames : List (Frame S)) : Type 0 where
   pub numbers : IsOneTrack (map meaning_of frames)
   pub structures : HaveEpochStructures frames

@@ -1,4 +1,4 @@
--- The laws of forwarding over histories, only from the facts about reading: own statements. S is the type of template dependency
+-- The laws of forwarding over histories, which assume only the facts about reading: own statements. S is the type of template dependency
 -- structures.
 use Rattle.std.specs.Prelude.{◌≡◌, ℕ, List}
 use Rattle.std.specs.declared.option.Option.TheVariants.{Some}
@@ -13,7 +13,7 @@ abbrev pub EndsAtRootInHistories : Type 0 → Type 0
 EndsAtRootInHistories S = (format : Format S) (send : Sender S) (number : ℕ) (history : List Entry) (wish : Wish) (n : ℕ) → IsFormat format
     → IsWithheld wish (timeline format send number history) n → IsPath (path (cause wish (timeline format send number history)) n)
 
--- in a history each take found a packet
+-- in every history, each take found a packet
 abbrev pub TakesFindPackets : Type 0 → Type 0
 TakesFindPackets S = (format : Format S) (send : Sender S) (number : ℕ) (history : List Entry) (subscriber : Subscriber)
     → subscriber_of number history ≡ Some subscriber → FindPackets send subscriber (timeline format send number history)

@@ -1,6 +1,6 @@
--- What a strict receiver without a complaint has seen, in words: one source, consecutive numbers, whole frames, every reference.
--- Own statements, over RFC 3550, section 5.1, and AV1 RTP payload format, section 4.4 and Appendix A. A receiver that never complains
--- would meet the laws on forwarded packets; it wouldn't meet these. The code keeps none of these lists.
+-- What a strict receiver without a complaint has received, in words: one source, consecutive numbers, whole frames, every reference. Own
+-- statements, over RFC 3550, section 5.1, and AV1 RTP payload format, section 4.4 and Appendix A. A receiver that never complains would fulfil
+-- the laws on forwarded packets, but not these. The code keeps none of these lists.
 use Rattle.std.specs.Prelude.{◌≡◌, ◌⊎◌, ◌+◌, ◌%◌, ◌&&◌, ℕ, List, [], ◌∷◌, ◌++◌, Bool, true, false, if◌then◌else◌, nat_lt, length, map}
 use Rattle.std.specs.List.{AllByRecursion}
 use Rattle.std.specs.declared.option.Option.{Option}
@@ -39,7 +39,7 @@ abbrev pub structure_in : {S : Type 0} → List (ReceivedFrame S) → Option S
 structure_in [] = None
 structure_in (x ∷ past) = structure_after (structure_in past) x.first.brings.descriptor
 
--- the packet of the part, read with this structure in force, shows what the part says
+-- the packet of the part, read with this structure in force, has the contents of the part
 pub record IsReadAs {S : Type 0} (format : Format S) (force : Option S) (part : Part (ReadPacket S)) : Type 0 where
   pub reads : shown format force part.brings.packet.rest
       ≡ Shows part.brings.descriptor (Elements (record { continues = part.continues; carries = part.carries }))
@@ -47,17 +47,17 @@ pub record IsReadAs {S : Type 0} (format : Format S) (force : Option S) (part : 
   pub end : part.end ≡ part.brings.descriptor.end
   pub number : part.number ≡ part.brings.descriptor.number
 
--- one of these frames is d below n
+-- one of these frames has the number that is d below n
 abbrev pub IsThere : {S : Type 0} → List (ReceivedFrame S) → ℕ → ℕ → Type 0
 IsThere frames n d = (g : ReceivedFrame _) × IsMember g frames × (g.number + d ≡ n)
 
--- n is above the number of the newest of these frames, by less than 32,768
+-- n is above the number of the newest of these frames, but by less than 32,768
 abbrev pub is_next_to : {S : Type 0} → List (ReceivedFrame S) → ℕ → Bool
 is_next_to [] n = false
 is_next_to (g ∷ past) n = nat_lt g.number n && nat_lt n (g.number + 32768)
 
--- of the frames that counted as received, those that still count when the next frame comes: none if it is a key frame, and none if its
--- number isn't next to the newest
+-- the frames that still count as received when the next frame comes: none if that frame is a key frame, or if its number isn't next to the
+-- newest
 abbrev pub counting : {S : Type 0} → (is_key is_next : Bool) → List (ReceivedFrame S) → List (ReceivedFrame S)
 counting is_key is_next frames = if is_key then [] else (if is_next then frames else [])
 
@@ -70,7 +70,7 @@ counted (x ∷ past) = x ∷ counting (is_key_frame x) (is_next_to past x.number
 abbrev pub NoneIsNextTo : {S : Type 0} → List (ReceivedFrame S) → ℕ → Type 0
 NoneIsNextTo past n = (m : ℕ) → m % 65536 ≡ n % 65536 → is_next_to past m ≡ false
 
--- x is a whole frame, read with the structure in force, with its number; and all its references count as received when it comes
+-- x is a whole frame with its number, read with the structure in force, and all its references count as received when it comes
 pub record IsReceived {S : Type 0} (format : Format S) (past : List (ReceivedFrame S)) (x : ReceivedFrame S) : Type 0 where
   pub first : IsReadAs format (structure_in past) x.first
   pub more : AllByRecursion (IsReadAs format (structure_in (x ∷ past))) x.more
@@ -93,7 +93,7 @@ abbrev pub HaveOneSource : List Packet → Type 0
 HaveOneSource [] = Unit {0}
 HaveOneSource (p ∷ ps) = AllByRecursion (λ q. q.ssrc ≡ p.ssrc) ps
 
--- the packets are whole frames, one after another, and the first packets of one more, or none
+-- the packets are whole frames, one after another, perhaps followed by the first packets of another frame
 pub record AreAccepted {S : Type 0} (format : Format S) (packets : List Packet) : Type 0 where
   pub frames : List (ReceivedFrame S)
   pub rest : List (Part (ReadPacket S))
@@ -108,30 +108,31 @@ pub record AreAccepted {S : Type 0} (format : Format S) (packets : List Packet) 
 abbrev pub NoComplaintAccepts : Type 0 → Type 0
 NoComplaintAccepts S = (format : Format S) (packets : List Packet) → complaint format (map Some packets) ≡ None → AreAccepted format packets
 
--- and it has no complaint about packets that are accepted in this sense
+-- a strict receiver has no complaint about packets that are accepted in this sense
 abbrev pub AcceptedIsNotComplainedOf : Type 0 → Type 0
 AcceptedIsNotComplainedOf S = (format : Format S) (packets : List Packet)
     → AreAccepted format packets → complaint format (map Some packets) ≡ None
 
--- and it complains about bytes that aren't RTP, wherever they come: if it has no complaint, all that came are packets
+-- a strict receiver always complains about bytes that aren't RTP: if it has no complaint, all of the input is packets
 abbrev pub NoComplaintIsOfPackets : Type 0 → Type 0
 NoComplaintIsOfPackets S = (format : Format S) (came : List (Option Packet))
     → complaint format came ≡ None → (packets : List Packet) × (came ≡ map Some packets)
 
--- ---- how much was accepted, and where a complaint is
+-- ---- how much was accepted, and the place of a complaint
 
--- if a strict receiver has no complaint, it accepts all that came
+-- a strict receiver without a complaint has accepted all of the input
 abbrev pub CountsAreWhole : Type 0 → Type 0
 CountsAreWhole S = (format : Format S) (came : List (Option Packet))
     → complaint format came ≡ None → packets_accepted format Waiting came ≡ length came
 
--- and as many frames as the words have; if there is a complaint, those of what came before it (`IsComplaintOf`), about which there is none
+-- for packets that are accepted in this sense, a strict receiver counts the frames that `AreAccepted` has; if there is a complaint,
+-- `IsComplaintOf` says which frames it counts
 abbrev pub FramesAreCounted : Type 0 → Type 0
 FramesAreCounted S = (format : Format S) (packets : List Packet) (a : AreAccepted format packets)
     → frames_accepted format Waiting (map Some packets) ≡ length a.frames
 
--- What was accepted is all that came before the item that is complained about, and the accepted frames are those of it. About that alone
--- there is no complaint; with the next item, there is this one.
+-- The accepted packets are all those before the item that is complained about, and the accepted frames are their frames. There is no complaint
+-- about these packets alone. With the next item, there is this complaint.
 pub record IsComplaintOf {S : Type 0} (format : Format S) (came : List (Option Packet)) (c : Complaint) : Type 0 where
   pub before : List (Option Packet)
   pub next : Option Packet
@@ -142,7 +143,7 @@ pub record IsComplaintOf {S : Type 0} (format : Format S) (came : List (Option P
   pub frames : frames_accepted format Waiting came ≡ frames_accepted format Waiting before
   pub ground : complaint format (before ++ next ∷ []) ≡ Some c
 
--- a complaint comes at its place
+-- a complaint comes at the item that is complained about
 abbrev pub ComplaintsHaveTheirPlace : Type 0 → Type 0
 ComplaintsHaveTheirPlace S = (format : Format S) (came : List (Option Packet)) (c : Complaint)
     → complaint format came ≡ Some c → IsComplaintOf format came c

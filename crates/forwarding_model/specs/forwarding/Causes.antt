@@ -1,5 +1,5 @@
--- Why each frame was or wasn't passed, and the path from a withheld frame to a root. Own rules.
--- The code keeps the verdicts of the last 4,096 numbers as they were when the frames came.
+-- Whether and why each frame was passed, and the path from a withheld frame to a root. Own rules. The code keeps the verdicts of the last 4,096
+-- numbers as they were when the frames came.
 use Rattle.std.specs.Prelude.{◌≡◌, ◌⊎◌, ◌<◌, ◌+◌, ◌-◌, ℕ, zero, suc, List, [], ◌∷◌, Bool, true, false, if◌then◌else◌, ◌==◌, nat_lt, nat_le, length}
 use Rattle.std.specs.List.{AllByRecursion}
 use Rattle.std.specs.declared.option.Option.{Option}
@@ -33,7 +33,7 @@ abbrev pub next_above : List Step → ℕ → Option ℕ
 next_above [] n = None
 next_above (step ∷ past) n = if nat_lt n step.number then Some (number_or (next_above past n) step.number) else None
 
--- the greatest frame number below n, if it is less than 4,096 below the newest
+-- the greatest frame number below n, or none if it is 4,096 or more below the newest
 abbrev pub next_below : List Step → ℕ → ℕ → Option ℕ
 next_below [] newest n = None
 next_below (step ∷ past) newest n =
@@ -41,7 +41,7 @@ next_below (step ∷ past) newest n =
     then (if nat_lt newest (step.number + 4096) then Some step.number else None)
     else next_below past newest n
 
--- a number that no frame has is a hole between the frames beside it
+-- a number that no frame has is a hole between the next frames below and above it
 abbrev pub verdict_or_hole : Option Verdict → Option ℕ → Option ℕ → Verdict
 verdict_or_hole None below above = Hole below (number_or above 0)
 verdict_or_hole (Some verdict) below above = verdict
@@ -66,7 +66,7 @@ oldest_asked newest = newest - 4095
 
 -- ---- causes over a timeline
 
--- the verdict on each frame when it came, the newest first
+-- the verdict on each frame at its arrival, the newest first
 abbrev pub verdicts : {S : Type 0} → Wish → List (Event S) → List Step
 verdicts wish [] = []
 verdicts wish (WholeFrame frame ∷ past) =
@@ -78,7 +78,7 @@ verdicts wish (Take ∷ past) = verdicts wish past
 abbrev pub cause : {S : Type 0} → Wish → List (Event S) → ℕ → Verdict
 cause wish events n = cause_among (verdicts wish events) n
 
--- a frame with the number n came and didn't pass
+-- a frame with the number n arrived and didn't pass
 abbrev pub IsWithheld : {S : Type 0} → Wish → List (Event S) → ℕ → Type 0
 IsWithheld wish [] n = ⊥
 IsWithheld wish (WholeFrame frame ∷ past) n =
@@ -89,7 +89,7 @@ IsWithheld wish (Take ∷ past) n = IsWithheld wish past n
 
 -- ---- paths
 
--- the number that a verdict names as its own cause
+-- the number of the frame that a verdict names as its cause
 abbrev pub followed : Verdict → Option ℕ
 followed Passed = None
 followed (NotOfTarget target) = None
@@ -115,7 +115,7 @@ abbrev pub path_on : Option ℕ → (ℕ → List Step) → List Step
 path_on None rest = []
 path_on (Some n) rest = rest n
 
--- n with its cause, then the number that this cause names, and so on; at most `limit` numbers
+-- the step of n with its cause, then the step of the number that this cause names, and so on; at most `limit` steps
 abbrev pub path_within : ℕ → (ℕ → Verdict) → ℕ → List Step
 path_within zero causes n = []
 path_within (suc limit) causes n = record { number = n; verdict = causes n } ∷ path_on (followed (causes n)) (path_within limit causes)
@@ -128,7 +128,7 @@ abbrev pub IsPathFrom : Step → List Step → Type 0
 IsPathFrom step [] = IsRoot step.verdict
 IsPathFrom step (next ∷ rest) = (followed step.verdict ≡ Some next.number) × (next.number < step.number) × IsPathFrom next rest
 
--- The list isn't empty, each step but the last names the number of the next, numbers fall, and the last is a root.
+-- The list isn't empty. Each step but the last names the number of the next step. The numbers fall, and the last step is a root.
 abbrev pub IsPath : List Step → Type 0
 IsPath [] = ⊥
 IsPath (step ∷ rest) = IsPathFrom step rest

@@ -1,7 +1,7 @@
--- Which packets are forwarded to a subscriber, which of them were taken, and which are kept for retransmission.
--- Sequence number, SSRC and marker: RFC 3550, section 5.1. Own rules: which packets are forwarded, and that the last one of a frame of the
--- target's spatial layer gets the marker, over AV1 RTP payload format, section 4.2 (the marker ends a temporal unit).
--- The definitions have the list of all forwarded packets; the code has the packets that are queued and the last that were taken.
+-- Which packets are forwarded to a subscriber, which of them were taken, and which are kept for retransmission. Sequence number, SSRC and
+-- marker: RFC 3550, section 5.1. Which packets are forwarded is an own rule. Another own rule sets the marker on the last packet of a frame of
+-- the target's highest spatial layer. AV1 RTP payload format, section 4.2: the marker ends a temporal unit. The definitions have the list of
+-- all forwarded packets. The code has the queued packets and the last taken ones.
 use Rattle.std.specs.Prelude.{◌≡◌, ◌<◌, ◌+◌, ◌%◌, ℕ, List, [], ◌∷◌, ◌++◌, Bool, false, if◌then◌else◌, ◌==◌, ◌||◌, length, take, drop}
 use Rattle.std.specs.List.{find}
 use Rattle.std.specs.declared.option.Option.{Option}
@@ -16,8 +16,8 @@ use Rattle.forwarding_model.specs.forwarding.Timeline.{Packet, Frame, Event, tak
 use Rattle.forwarding_model.specs.forwarding.Timeline.Event.{WholeFrame, PlainPacket, WishChange, Take}
 use Rattle.forwarding_model.specs.forwarding.Standing.{standing, passes_at, candidate_at, plain_passes}
 
--- How the packets of a frame are sent to a subscriber with this target, before they are numbered. All laws hold for each such rule
--- that keeps what a receiver reads; `send_marked` is the rule of this forwarder.
+-- A rule that says how the packets of a frame are sent to a subscriber with this target, before they are numbered. All laws hold for each such
+-- rule that keeps what a receiver reads. `send_marked` is the rule of this forwarder.
 abbrev pub Sender : Type 0 → Type 0
 Sender S = Frame S → CurrentTarget → List Packet
 
@@ -39,7 +39,7 @@ marked is_last (packet ∷ next ∷ rest) = packet ∷ marked is_last (next ∷ 
 abbrev pub send_marked : {S : Type 0} → Sender S
 send_marked frame target = marked (is_top_layer frame.meaning target) frame.packets
 
--- the packets of what passed, the oldest first, before they are numbered
+-- the packets of the frames that passed, the oldest first, before they are numbered
 abbrev pub forwarded : {S : Type 0} → Sender S → Wish → List (Event S) → List Packet
 forwarded send wish [] = []
 forwarded send wish (WholeFrame frame ∷ past) =
@@ -57,7 +57,7 @@ numbered n ssrc [] = []
 numbered n ssrc (packet ∷ packets) =
     record { sequence_number = n % 65536; ssrc = ssrc; marker = packet.marker; rest = packet.rest } ∷ numbered (n + 1) ssrc packets
 
--- how a subscriber joined
+-- the join of a subscriber
 pub record Subscriber : Type 0 where
   pub ssrc : ℕ
   pub first : ℕ  -- its first sequence number
@@ -67,15 +67,15 @@ pub record Subscriber : Type 0 where
 abbrev pub outgoing : {S : Type 0} → Sender S → Subscriber → List (Event S) → List Packet
 outgoing send subscriber events = numbered subscriber.first subscriber.ssrc (forwarded send subscriber.wish events)
 
--- what was taken is a prefix
+-- the taken packets: a prefix of all forwarded packets
 abbrev pub taken : {S : Type 0} → Sender S → Subscriber → List (Event S) → List Packet
 taken send subscriber events = take (takes_of events) (outgoing send subscriber events)
 
--- and the rest is queued
+-- the queued packets: all forwarded packets after that prefix
 abbrev pub queue : {S : Type 0} → Sender S → Subscriber → List (Event S) → List Packet
 queue send subscriber events = drop (takes_of events) (outgoing send subscriber events)
 
--- the last 1,024 that were taken are kept
+-- the kept packets: the last 1,024 taken ones
 abbrev pub kept : {S : Type 0} → Sender S → Subscriber → List (Event S) → List Packet
 kept send subscriber events = last_part 1024 (taken send subscriber events)
 
@@ -105,7 +105,7 @@ AreConsecutive [] = Unit {0}
 AreConsecutive (packet ∷ []) = Unit {0}
 AreConsecutive (packet ∷ next ∷ rest) = (next.sequence_number ≡ (packet.sequence_number + 1) % 65536) × AreConsecutive (next ∷ rest)
 
--- each take found a queued packet; takes that find none are refused
+-- each take found a queued packet, since takes that find none are refused
 abbrev pub FindPackets : {S : Type 0} → Sender S → Subscriber → List (Event S) → Type 0
 FindPackets send subscriber [] = Unit {0}
 FindPackets send subscriber (WholeFrame frame ∷ past) = FindPackets send subscriber past
@@ -113,6 +113,6 @@ FindPackets send subscriber (PlainPacket packet ∷ past) = FindPackets send sub
 FindPackets send subscriber (WishChange wish ∷ past) = FindPackets send subscriber past
 FindPackets send subscriber (Take ∷ past) = (takes_of past < length (outgoing send subscriber past)) × FindPackets send subscriber past
 
--- a frame is sent in as many packets as it has
+-- the number of packets in which a frame is sent is the number of its packets
 abbrev pub KeepsCount : {S : Type 0} → Sender S → Type 0
 KeepsCount send = (frame : Frame _) (target : CurrentTarget) → length (send frame target) ≡ length frame.packets

@@ -1,9 +1,9 @@
--- Whether a frame goes to a subscriber: the rules on another epoch, the mask, the link, opening and passing, and the verdict on a frame.
--- Own rules, over the fields of AV1 RTP payload format, Appendix A. Two readings are fixed here: a frame that is a switch for a target
--- may open it, and a chain distance of 0 (frame_chain_fdiff) closes nothing.
--- The rules see what was passed before only through two values: a test `has`, where `has d` says that the frame d below f was passed in
--- f's epoch, and `key_passed`, which says that a key frame of f's epoch was. In the code, a window of bits answers the test; in a standing
--- (`Standing`), the whole list does. No test subtracts, since numbers stop at 0: a frame d below n is one whose number plus d is n.
+-- Whether a frame goes to a subscriber: the rules on another epoch, the mask, the link, opening and passing, and the verdict on a frame. Own
+-- rules, over the fields of AV1 RTP payload format, Appendix A. Two interpretations are fixed here: a frame that is a switch for a target may
+-- open it, and a chain distance of 0 (frame_chain_fdiff) closes nothing. The rules use only two values about the frames passed before. The test
+-- `has d` says that the frame d below f was passed in f's epoch. `key_passed` says that a key frame of f's epoch was passed. In the code, a
+-- window of bits decides the test; in a standing (`Standing`), the list of passed frames does. No test subtracts, since numbers stop at 0: a
+-- frame d below n is one whose number plus d is n.
 use Rattle.std.specs.Prelude.{◌≡◌, ◌<◌, ◌+◌, ◌-◌, ℕ, Bool, true, false, if◌then◌else◌, ◌&&◌, ◌||◌, not, nat_lt, nat_le, slice_index_or}
 use Rattle.std.specs.List.{AllByRecursion}
 use Rattle.std.specs.declared.option.Option.{Option}
@@ -28,7 +28,7 @@ abbrev pub open_target : CurrentTarget → Option ℕ
 open_target (Open target opened) = Some target
 open_target (Closed reason) = None
 
--- The rule on another epoch (a frame of another epoch closes the target) is a rule on the standing.
+-- The rule on another epoch, by which a frame of another epoch closes the target, is a rule on the standing (`Standing`).
 
 -- The rule on the mask: if the mask of f lacks the target's bit, the target is closed.
 abbrev pub target_under_mask : FrameMeaning → CurrentTarget → CurrentTarget
@@ -39,7 +39,7 @@ target_under_mask f (Closed reason) = Closed reason
 abbrev pub chain_link : FrameMeaning → ℕ → ℕ
 chain_link f target = slice_index_or f.links (slice_index_or f.guards target 0) 0
 
--- there are chains, and the link in f names a frame that is the opening frame or a later one, and that wasn't passed
+-- there are chains, and f's link names the opening frame or a later frame, which wasn't passed
 abbrev pub is_link_broken : (ℕ → Bool) → FrameMeaning → ℕ → ℕ → Bool
 is_link_broken has f target opened =
     nat_lt 0 f.chain_count
@@ -62,8 +62,8 @@ abbrev pub is_upgrade : Wish → FrameMeaning → CurrentTarget → ℕ → Bool
 is_upgrade wish f (Open target opened) other = not (is_allowed wish f target) || is_better f other target
 is_upgrade wish f (Closed reason) other = true
 
--- The rule on opening: f can open a target that is allowed, where f is a switch for it, or a key frame that is present in it; all
--- references of f were passed (`complete`); f is a key frame or its epoch's was passed (`keyed`); and the target is an upgrade.
+-- The rule on opening has five conditions. The target is allowed. f is a switch for it, or a key frame that is present in it. All references of
+-- f were passed (`complete`). f is a key frame, or a key frame of its epoch was passed (`keyed`). The target is an upgrade.
 abbrev pub can_open : Wish → Bool → Bool → FrameMeaning → CurrentTarget → ℕ → Bool
 can_open wish complete keyed f current target =
     is_allowed wish f target
@@ -81,7 +81,7 @@ abbrev pub opened_or : FrameMeaning → Option ℕ → CurrentTarget → Current
 opened_or f None current = current
 opened_or f (Some target) current = Open target f.number
 
--- the best target that f can open, else the one that is open; if f passes, this is the target after f
+-- the best target that f can open or, if it can open none, the open target; if f passes, this is the target after f
 abbrev pub candidate : (ℕ → Bool) → Bool → Wish → FrameMeaning → CurrentTarget → CurrentTarget
 candidate has key_passed wish f current =
     opened_or f (opening has key_passed wish f (kept_target has f current)) (kept_target has f current)
@@ -111,18 +111,18 @@ abbrev pub reason_verdict : Reason → Verdict
 reason_verdict (BrokenLink at number) = Link at number
 reason_verdict (NotOpened since) = Unopened since
 
--- for an open candidate: passed, or full; for a closed one: its reason
+-- the verdict for an open candidate is passed or full; for a closed one, it is the target's reason
 abbrev pub candidate_verdict : ℕ → ℕ → CurrentTarget → Verdict
 candidate_verdict queued packets (Open target opened) = if has_room queued packets then Passed else Full queued packets
 candidate_verdict queued packets (Closed reason) = reason_verdict reason
 
--- A reference that wasn't passed decides before that. Its verdict is `Behind` if it lies below the epoch's start.
+-- A reference that wasn't passed decides first. Its verdict is `Behind` if the reference lies below the epoch's start.
 abbrev pub reference_verdict : FrameMeaning → Option ℕ → Verdict → Verdict
 reference_verdict f None otherwise = otherwise
 reference_verdict f (Some distance) otherwise =
     if nat_lt f.number (f.start + distance) then Behind distance f.start else Reference (f.number - distance)
 
--- Two things decide before both: that there is no target, and that f isn't present in it.
+-- Two cases are decided even before that: there is no target, or f isn't present in the target.
 abbrev pub target_verdict : FrameMeaning → Option ℕ → Verdict → Verdict
 target_verdict f None otherwise = NotOfTarget None
 target_verdict f (Some target) otherwise = if is_present f target then otherwise else NotOfTarget (Some target)
@@ -135,8 +135,8 @@ verdict has key_passed wish f current queued packets =
 
 -- ---- two tests
 
--- The tests agree on the references of f and on its links, which are all that the rules look at. So a window of numbers that is exact
--- for those distances leads to the same decisions as the whole list.
+-- The tests agree on the references of f and on its links. The rules use no other distances, so a window that is exact for these leads to the
+-- same decisions as the whole list.
 pub record Agree (p q : ℕ → Bool) (f : FrameMeaning) : Type 0 where
   pub references : AllByRecursion (λ d. p d ≡ q d) (references f)
   pub links : (target : ℕ) → 0 < chain_link f target → p (chain_link f target) ≡ q (chain_link f target)

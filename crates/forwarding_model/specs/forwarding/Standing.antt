@@ -1,6 +1,5 @@
--- The standing of a subscriber after a timeline. Own rules.
--- The standing has the list of all passed frames of the epoch; the code keeps a window of the last 4,096 numbers and whether a key
--- frame was passed.
+-- The standing of a subscriber after a timeline. Own rules. The standing has the list of all passed frames of the epoch. The code keeps a
+-- window of the last 4,096 numbers, and whether a key frame was passed.
 use Rattle.std.specs.Prelude.{◌+◌, ◌-◌, ℕ, List, [], ◌∷◌, Bool, true, false, if◌then◌else◌, ◌==◌, nat_lt, length}
 use Rattle.std.specs.declared.option.Option.{Option}
 use Rattle.std.specs.declared.option.Option.TheVariants.{None, Some}
@@ -21,9 +20,9 @@ pub record Standing : Type 0 where
   pub epoch_passed : List FrameMeaning  -- the frames of the epoch that passed, the newest first
   pub target : CurrentTarget
   pub passed : List FrameMeaning  -- all frames that passed, the newest first
-  pub queued : ℕ  -- the packets that passed, less those taken
+  pub queued : ℕ  -- the number of packets that passed, minus those that were taken
 
--- Nothing has come yet. The reason is never used, since the first frame sets another.
+-- The standing before the first event. The reason is never used, since the first frame sets another one.
 abbrev pub joined : Wish → Standing
 joined wish = record { wish = wish; epoch = None; epoch_passed = []; target = Closed (NotOpened 0); passed = []; queued = 0 }
 
@@ -34,11 +33,11 @@ is_epoch (Some current) epoch = current == epoch
 abbrev pub is_key : FrameMeaning → Bool
 is_key f = f.key
 
--- one of these frames has the number that lies d below n
+-- one of these frames has the number that is d below n
 abbrev pub has_below : List FrameMeaning → ℕ → ℕ → Bool
 has_below frames n d = list_any (λ g. (g.number + d) == n) frames
 
--- The rule on another epoch: when its first frame comes, nothing of that epoch was passed, and no target is open.
+-- The rule on another epoch: when the first frame of an epoch arrives, no frame of that epoch was passed, and no target is open.
 abbrev pub passed_at : Standing → FrameMeaning → List FrameMeaning
 passed_at s f = if is_epoch s.epoch f.epoch then s.epoch_passed else []
 
@@ -69,7 +68,7 @@ verdict_at s f packets = verdict (has_passed s f) (key_passed s f) s.wish f (tar
 
 -- ---- one event after another
 
--- after the frame f with this many packets; `true` if it passes
+-- the standing after the frame f, which has this number of packets; `true` if it passes
 abbrev pub admitted : Bool → Standing → FrameMeaning → ℕ → Standing
 admitted true s f packets =
     record {
@@ -93,7 +92,7 @@ admitted false s f packets =
 abbrev pub after_frame : Standing → FrameMeaning → ℕ → Standing
 after_frame s f packets = admitted (passes_at s f packets) s f packets
 
--- a packet of a plain track passes where fewer than 512 are queued
+-- a packet of a plain track passes if fewer than 512 packets are queued
 abbrev pub plain_passes : Standing → Bool
 plain_passes s = nat_lt s.queued 512
 
@@ -107,7 +106,7 @@ after s (PlainPacket packet) = after_plain (plain_passes s) s
 after s (WishChange wish) = record s { wish = wish }
 after s Take = record s { queued = s.queued - 1 }
 
--- of a subscriber that joined with this wish
+-- the standing of a subscriber that joined with this wish
 abbrev pub standing : {S : Type 0} → Wish → List (Event S) → Standing
 standing wish [] = joined wish
 standing wish (event ∷ past) = after (standing wish past) event

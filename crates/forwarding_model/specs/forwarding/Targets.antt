@@ -45,7 +45,7 @@ is_active f target = (f.mask / 2 ^ target) % 2 == 1
 abbrev pub layers : FrameMeaning → ℕ → Option Wish
 layers f target = slice_index_or f.pairs target None
 
--- there is a pair, and both of its parts are at most the wish's
+-- there is a pair, and its spatial and temporal id are at most the wish's
 abbrev pub is_within : Wish → Option Wish → Bool
 is_within wish None = false
 is_within wish (Some pair) = nat_le pair.spatial wish.spatial && nat_le pair.temporal wish.temporal
@@ -53,7 +53,7 @@ is_within wish (Some pair) = nat_le pair.spatial wish.spatial && nat_le pair.tem
 abbrev pub is_allowed : Wish → FrameMeaning → ℕ → Bool
 is_allowed wish f target = is_active f target && is_within wish (layers f target)
 
--- the first of two targets with these pairs and indexes is better: the spatial id decides, then the temporal, then the lower index
+-- of two targets with these pairs and indexes, the first is better: the greater spatial id decides, then the greater temporal id, then the lower index
 abbrev pub is_better_pair : Wish → Wish → ℕ → ℕ → Bool
 is_better_pair p q target other =
     nat_lt q.spatial p.spatial
@@ -67,7 +67,7 @@ is_better_of (Some p) (Some q) target other = is_better_pair p q target other
 abbrev pub is_better : FrameMeaning → ℕ → ℕ → Bool
 is_better f target other = is_better_of (layers f target) (layers f other) target other
 
--- the better of two: a target, if it passes the test, and the best before it
+-- the better of two targets: this one, if it passes the test, and the best one before it
 abbrev pub better_one : FrameMeaning → Bool → ℕ → Option ℕ → Option ℕ
 better_one f passes target None = if passes then Some target else None
 better_one f passes target (Some other) = if passes && is_better f target other then Some target else Some other
@@ -99,7 +99,7 @@ IsBetterOf (Some p) (Some q) target other = IsBetterPair p q target other
 abbrev pub IsBetter : FrameMeaning → ℕ → ℕ → Type 0
 IsBetter f target other = IsBetterOf (layers f target) (layers f other) target other
 
--- Of the targets below n, none passes the test; or this one does, and it is better than each other one that does.
+-- None of the targets below n passes the test; or this target does, and is better than every other target that does.
 abbrev pub IsBest : FrameMeaning → (ℕ → Bool) → ℕ → Option ℕ → Type 0
 IsBest f test n None = (target : ℕ) → target < n → test target ≡ true → ⊥
 IsBest f test n (Some best) =

@@ -1,9 +1,9 @@
--- Packets, frames, and what happens to a subscriber. Own rules, but for the fields of a packet.
+-- Packets, frames, and the events of a subscriber. Own rules, except for the fields of a packet.
 use Rattle.std.specs.Prelude.{◌+◌, ℕ, List, [], ◌∷◌, Bool, map}
 use Rattle.sfu_base.specs.declared.frame.FrameMeaning.{FrameMeaning}
 use Rattle.sfu_base.specs.declared.frame.Wish.{Wish}
 
--- An RTP packet (RFC 3550, section 5.1): its sequence number, SSRC and marker, and everything else. The code has the packet's bytes.
+-- An RTP packet (RFC 3550, section 5.1): its sequence number, SSRC and marker, and everything else in `rest`. The code has the packet's bytes.
 pub record Packet : Type 0 where
   pub sequence_number : ℕ
   pub ssrc : ℕ
@@ -23,9 +23,9 @@ pub record Frame (S : Type 0) : Type 0 where
 abbrev pub meaning_of : {S : Type 0} → Frame S → FrameMeaning
 meaning_of frame = frame.meaning
 
--- What happens to a subscriber after it joined: a frame of its layered track became whole, a packet of its plain track came in order,
--- its wish was changed, or it took a packet (so one was queued). A call that makes several frames adds several events.
--- A timeline is a list of events, the newest first. The code keeps no such list.
+-- An event of a subscriber after it joined. A frame of its layered track became complete, a packet of its plain track was released, its wish
+-- was changed, or it took a packet (so one was queued). A call that makes several frames adds several events. A timeline is a list of events,
+-- the newest first. The code keeps no such list.
 pub data Event (S : Type 0) : Type 0 where
   WholeFrame : (frame : Frame S) → Event S
   PlainPacket : (packet : Packet) → Event S

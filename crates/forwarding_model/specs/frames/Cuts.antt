@@ -1,9 +1,7 @@
--- Whole cuts: which packets in a row are one whole frame.
--- AV1 RTP payload format, section 4.4 (Z and Y of the aggregation header), and Appendix A (start_of_frame, end_of_frame, frame_number).
--- That a frame has at most 512 packets, and that anything else tears it, are own rules.
--- There are two definitions of the whole cut. `IsWholeCut` has the words, over a list of parts. A run is built mark by mark; this is how
--- the frames of a track are defined and what code keeps. A law says that the runs that end are exactly the whole cuts.
--- X is the type of the data that a part carries.
+-- Whole cuts: which packets in a row are one whole frame. AV1 RTP payload format, section 4.4 (Z and Y of the aggregation header), and Appendix
+-- A (start_of_frame, end_of_frame, frame_number). That a frame has at most 512 packets, and that anything else tears it, are own rules. There
+-- are two definitions of the whole cut. `IsWholeCut` describes it as a list of parts. A run is built mark by mark, as the code does; the frames
+-- of a track are defined by runs. A law says that the finished runs are exactly the whole cuts. X is the type of the data that a part carries.
 use Rattle.std.specs.Prelude.{◌≡◌, ◌+◌, ◌≤◌, ℕ, List, [], ◌∷◌, ◌++◌, Bool, true, false, if◌then◌else◌, ◌==◌, ◌&&◌, not, nat_lt, length}
 use Rattle.std.specs.Bool.{beq}
 use Rattle.std.specs.List.{AllByRecursion}
@@ -19,7 +17,7 @@ pub record Part (X : Type 0) : Type 0 where
   pub carries : Bool  -- Y
   pub brings : X
 
--- the packets of a track in order: given up, only padding, unreadable, or a part of a frame. Lists of marks have the newest first.
+-- an item of a track, in order: numbers given up, a packet of padding, an unreadable packet, or a part of a frame. Lists of marks have the newest first.
 pub data Mark (X : Type 0) : Type 0 where
   Gone : Mark X
   Padding : Mark X
@@ -28,7 +26,7 @@ pub data Mark (X : Type 0) : Type 0 where
 
 -- ---- a run, mark by mark
 
--- A start and the parts that continue it: the first, the others with the oldest first, and the newest of all.
+-- A start and the parts that continue it: the first part, the other parts with the oldest first, and the newest part.
 pub record Run (X : Type 0) : Type 0 where
   pub first : Part X
   pub more : List (Part X)
@@ -37,13 +35,13 @@ pub record Run (X : Type 0) : Type 0 where
 abbrev pub parts_of : {X : Type 0} → Run X → List (Part X)
 parts_of run = run.first ∷ run.more
 
--- the part has the run's frame number, its elements join, the run hasn't ended and has fewer than 512 parts
+-- the part has the run's frame number, its elements join, and the run hasn't ended and has fewer than 512 parts
 abbrev pub is_next : {X : Type 0} → Run X → Part X → Bool
 is_next run part =
     not run.newest.end
     && (part.number == run.first.number && (beq part.continues run.newest.carries && nat_lt (length run.more + 1) 512))
 
--- a start begins a run, whatever came before it, unless it continues an element
+-- a start begins a run, whatever precedes it, unless it continues an element
 abbrev pub begun : {X : Type 0} → Part X → Option (Run X)
 begun part = if part.continues then None else Some (record { first = part; more = []; newest = part })
 
@@ -67,7 +65,7 @@ abbrev pub whole : {X : Type 0} → Option (Run X) → Option (Run X)
 whole None = None
 whole (Some run) = if run.newest.end && not run.newest.carries then Some run else None
 
--- the whole cut that a mark ends, after this run; padding ends none
+-- the whole cut that a mark after this run ends; padding ends none
 abbrev pub cut_by : {X : Type 0} → Option (Run X) → Mark X → Option (Run X)
 cut_by run Gone = None
 cut_by run Padding = None
@@ -79,7 +77,7 @@ abbrev pub cut_of : {X : Type 0} → List (Mark X) → Option (Run X)
 cut_of [] = None
 cut_of (mark ∷ past) = cut_by (run_of past) mark
 
--- what the newest mark made: nothing for padding, a whole frame, a run that goes on, or a torn frame
+-- what the newest mark made: nothing if it is padding, a whole frame, a run that continues, or a torn frame
 pub data Outcome : Type 0 where
   IsPadding : Outcome
   IsWhole : Outcome
@@ -111,7 +109,7 @@ abbrev pub HaveOneNumber : {X : Type 0} → List (Part X) → Type 0
 HaveOneNumber [] = ⊥
 HaveOneNumber (part ∷ more) = AllByRecursion (λ p. p.number ≡ part.number) more
 
--- Each Z equals the Y before it, and the last Y is 0. `open_element` is the Y before the first part.
+-- Each Z equals the previous part's Y, and the last Y is 0. `open_element` is the Y before the first part.
 abbrev pub Join : {X : Type 0} → Bool → List (Part X) → Type 0
 Join open_element [] = open_element ≡ false
 Join open_element (part ∷ more) = (part.continues ≡ open_element) × Join part.carries more
@@ -124,12 +122,12 @@ pub record IsWholeCut {X : Type 0} (parts : List (Part X)) : Type 0 where
   pub number : HaveOneNumber parts
   pub joins : Join false parts
 
--- The same, except that the last Y may be 0 or 1.
+-- The same as `Join`, except that the last Y may be 0 or 1.
 abbrev pub JoinSoFar : {X : Type 0} → Bool → List (Part X) → Type 0
 JoinSoFar open_element [] = Unit {0}
 JoinSoFar open_element (part ∷ more) = (part.continues ≡ open_element) × JoinSoFar part.carries more
 
--- The parts of a frame that hasn't ended, the oldest first. They differ from a whole cut in two ways: no part ends them, and the last
+-- The parts of a frame that hasn't ended, the oldest first. They differ from a whole cut in two ways: no part ends the frame, and the last
 -- element may be open.
 pub record IsUnfinishedCut {X : Type 0} (parts : List (Part X)) : Type 0 where
   pub few : length parts ≤ 512
@@ -155,12 +153,12 @@ abbrev pub NewestIsPart : {X : Type 0} → List (Mark X) → Type 0
 NewestIsPart [] = ⊥
 NewestIsPart (mark ∷ past) = IsPart mark
 
--- the marks of these parts; parts have the oldest first, marks the newest
+-- the marks of these parts; the parts have the oldest first, the marks the newest first
 abbrev pub newest_first : {X : Type 0} → List (Part X) → List (Mark X)
 newest_first [] = []
 newest_first (part ∷ more) = newest_first more ++ Read part ∷ []
 
--- The newest mark is a part, and apart from padding the newest marks are exactly these parts.
+-- The newest mark is a part, and the newest marks, without padding, are exactly these parts.
 pub record EndsIn {X : Type 0} (marks : List (Mark X)) (parts : List (Part X)) : Type 0 where
   pub newest : NewestIsPart marks
   pub older : List (Mark X)

@@ -1,7 +1,7 @@
--- The whole frames of a track, made from its packets in order, and the meaning of each.
--- AV1 RTP payload format, Appendix A: the template dependency structure and the active decode targets in force, frame numbers, and the
--- fields of a frame. Epochs, which key starts begin, and what is done with stale numbers are own rules.
--- What is in force and the current run are folded over the items; the code keeps only the first descriptor of the run.
+-- The whole frames of a track, made from its packets in order, and the meaning of each. AV1 RTP payload format, Appendix A: the template
+-- dependency structure and the active decode targets in force, frame numbers, and the fields of a frame. Own rules: epochs, which begin at key
+-- starts, and the treatment of stale numbers. The state in force and the current run are folded over the items. The code keeps only the first
+-- descriptor of the run.
 use Rattle.std.specs.Prelude.{◌+◌, ◌-◌, ◌^◌, ℕ, List, [], ◌∷◌, ◌++◌, Bool, true, false, if◌then◌else◌, map}
 use Rattle.std.specs.declared.option.Option.{Option}
 use Rattle.std.specs.declared.option.Option.TheVariants.{None, Some}
@@ -14,7 +14,7 @@ use Rattle.forwarding_model.specs.frames.Reading.Showing.{LacksStructure, Unread
 use Rattle.forwarding_model.specs.frames.Cuts.{Part, Mark, Run, extended, cut_by, parts_of}
 use Rattle.forwarding_model.specs.frames.Cuts.Mark.{Gone, Padding, Unreadable, Read}
 
--- In the order of the track, numbers that were given up, or a packet that came. Lists of items have the newest first.
+-- An item in the order of the track: numbers that were given up, or a packet. Lists of items have the newest first.
 pub data Item : Type 0 where
   Missing : Item
   Arrived : (packet : Packet) → Item
@@ -26,7 +26,7 @@ pub record Force (S : Type 0) : Type 0 where
   pub mask : ℕ  -- the active decode targets
   pub epoch : ℕ  -- how many epochs have begun
   pub start : ℕ  -- the number of the epoch's key start
-  pub newest : ℕ  -- the newest frame number, of a key start or a whole frame
+  pub newest : ℕ  -- the newest frame number of a key start or a whole frame
 
 abbrev pub no_force : {S : Type 0} → Force S
 no_force = record { structure = None; mask = 0; epoch = 0; start = 0; newest = 0 }
@@ -35,13 +35,13 @@ no_force = record { structure = None; mask = 0; epoch = 0; start = 0; newest = 0
 abbrev pub all_targets : Layout → ℕ
 all_targets layout = 2 ^ layout.target_count - 1
 
--- a descriptor's own mask; or all targets, if it carries a structure; or the mask from before
+-- the descriptor's own mask; or, if it only carries a structure, all targets; or else the old mask
 abbrev pub mask_by : {S : Type 0} → Format S → Option ℕ → Option S → ℕ → ℕ
 mask_by format (Some mask) structure old = mask
 mask_by format None (Some s) old = all_targets (format.layout s)
 mask_by format None None old = old
 
--- the number of a key start: its frame number in the first epoch, and later the least above the newest that agrees with it (mod 65,536)
+-- the number of a key start: in the first epoch its frame number, later the least number above the newest that equals its frame number modulo 65,536
 abbrev pub key_number : {S : Type 0} → Option S → ℕ → ℕ → ℕ
 key_number None newest n = n
 key_number (Some s) newest n = least_above newest n
@@ -57,7 +57,7 @@ seen_as format force d true =
     }
 seen_as format force d false = record force { mask = mask_by format d.mask d.structure force.mask }
 
--- A descriptor that was read takes effect whether or not its payload reads or its frame becomes whole.
+-- A descriptor that was read takes effect even if its payload can't be read or its frame doesn't become whole.
 abbrev pub after_descriptor : {S : Type 0} → Format S → Force S → Descriptor S → Force S
 after_descriptor format force d = seen_as format force d (is_key_start d)
 
@@ -101,7 +101,7 @@ is_padding (Elements joins) = false
 
 -- ---- frames
 
--- a key frame has its epoch's start; any other frame has the nearest number, or none if that isn't above the newest
+-- a key frame has the number of its epoch's start; any other frame has the nearest number, or none if that isn't above the newest
 abbrev pub number_of : {S : Type 0} → Force S → Descriptor S → Option ℕ
 number_of force d =
     if is_key_start d then Some force.start
@@ -141,7 +141,7 @@ framed format force run (Some s) (Some number) =
       packets = map packet_of (parts_of run);
     })
 
--- the frame of a whole cut, unless its number is stale
+-- the frame of a whole cut, or none if its number is stale
 abbrev pub frame_of : {S : Type 0} → Format S → Force S → Option (Run (ReadPacket S)) → Option (Frame S)
 frame_of format force None = None
 frame_of format force (Some run) = framed format force run force.structure (number_of force run.first.brings.descriptor)
@@ -152,7 +152,7 @@ pub record TrackState (S : Type 0) : Type 0 where
   pub force : Force S
   pub run : Option (Run (ReadPacket S))
 
--- what one item makes: the next state, and a frame or none
+-- the result of one item: the next state, and a frame or none
 pub record Made (S : Type 0) : Type 0 where
   pub state : TrackState S
   pub frame : Option (Frame S)
@@ -164,7 +164,7 @@ newest_with (Some frame) newest = frame.meaning.number
 abbrev pub with_frame : {S : Type 0} → Force S → Option (Frame S) → Force S
 with_frame force frame = record force { newest = newest_with frame force.newest }
 
--- of an item: what is in force once its packet was read, and its mark
+-- the result of an item, from what is in force after its packet was read, and its mark
 abbrev pub made_by : {S : Type 0} → Format S → Force S → Option (Run (ReadPacket S)) → Mark (ReadPacket S) → Made S
 made_by format force run mark =
     record {
@@ -200,7 +200,7 @@ abbrev pub frames_after : {S : Type 0} → Format S → List Item → List (Fram
 frames_after format [] = []
 frames_after format (item ∷ past) = in_front (made_by_item format (state_after format past) item).frame (frames_after format past)
 
--- The frames that the newest items made, after the older items had come. These are the frames of one call.
+-- The frames that the newest items made after the older items. These are the frames of one call.
 abbrev pub frames_since : {S : Type 0} → Format S → List Item → List Item → List (Frame S)
 frames_since format older [] = []
 frames_since format older (item ∷ past) =

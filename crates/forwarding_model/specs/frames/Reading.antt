@@ -1,8 +1,7 @@
--- What a packet says: its dependency descriptor and its payload's flags.
--- AV1 RTP payload format, Appendix A (dependency descriptor) and section 4.4 (aggregation header). A `Format` says how bits are read; the
--- crates of those grammars provide it. Here are the rules on what was read. The structure rule is this project's own.
--- The code reads bytes; here a packet's rest is whatever a format can read.
--- S is the type of template dependency structures.
+-- The contents of a packet: its dependency descriptor and its payload's flags. AV1 RTP payload format, Appendix A (dependency descriptor) and
+-- section 4.4 (aggregation header). A `Format` says how bits are read; the crates of those grammars provide it. This file has the rules on what
+-- was read. The structure rule is an own rule. The code reads bytes; here a packet's rest is anything that a format can read. S is the type of
+-- template dependency structures.
 use Rattle.std.specs.Prelude.{◌≡◌, ◌≢◌, ◌<◌, ◌≤◌, ◌^◌, ℕ, List, Bool, true, false, if◌then◌else◌, ◌==◌, ◌&&◌, ◌||◌, slice_index, take}
 use Rattle.std.specs.declared.option.Option.{Option}
 use Rattle.std.specs.declared.option.Option.TheVariants.{None, Some}
@@ -10,13 +9,13 @@ use Rattle.sfu_base.specs.declared.frame.Dti.{Dti}
 use Rattle.sfu_base.specs.declared.frame.Wish.{Wish}
 use Rattle.sfu_base.specs.Frame.{IsDistance}
 
--- a descriptor, with its template's parts filled in; only the first `ref_count` entries of `refs` count
+-- a descriptor, with its template's parts filled in; only the first `ref_count` entries of `refs` are used
 pub record Descriptor (S : Type 0) : Type 0 where
   pub start : Bool  -- start_of_frame
   pub end : Bool  -- end_of_frame
   pub number : ℕ  -- frame_number, below 65,536
   pub structure : Option S  -- the structure that it carries
-  pub mask : Option ℕ  -- the active decode targets, where they are written
+  pub mask : Option ℕ  -- the active decode targets, if the descriptor has them
   pub spatial : ℕ
   pub temporal : ℕ
   pub dtis : List Dti
@@ -29,7 +28,7 @@ pub data DescriptorReading (S : Type 0) : Type 0 where
   Faulty : DescriptorReading S
   Reads : (descriptor : Descriptor S) → DescriptorReading S
 
--- whether the first element continues one of the packet before (Z), and the last goes on in the next (Y)
+-- whether the first element continues one of the previous packet (Z), and whether the last element continues in the next packet (Y)
 pub record Joins : Type 0 where
   pub continues : Bool
   pub carries : Bool
@@ -46,8 +45,8 @@ pub record Layout : Type 0 where
   pub chain_count : ℕ
   pub guards : List ℕ
 
--- How the packets of a track are read, given its extension id. A format reads only a packet's rest, and not its sequence number, SSRC
--- and marker.
+-- How the packets of a track with some extension id are read. A format reads only a packet's rest, and not its sequence number, SSRC and
+-- marker.
 pub record Format (S : Type 0) : Type 0 where
   -- the descriptor in the first header extension element of the track's id, with the structure in force; faulty if there is none
   pub descriptor : Option S → List ℕ → DescriptorReading S
@@ -64,7 +63,7 @@ has_structure (Some s) = true
 abbrev pub is_key_start : {S : Type 0} → Descriptor S → Bool
 is_key_start d = has_structure d.structure && (d.start && d.ref_count == 0)
 
--- the packet carries no structure, or the same as the one in force
+-- the packet carries no structure, or the structure that is in force
 abbrev pub keeps_structure : {S : Type 0} → Format S → Option S → Option S → Bool
 keeps_structure format force None = true
 keeps_structure format None (Some s) = false
@@ -74,7 +73,7 @@ keeps_structure format (Some current) (Some s) = format.same s current
 abbrev pub obeys_structure : {S : Type 0} → Format S → Option S → Descriptor S → Bool
 obeys_structure format force d = is_key_start d || keeps_structure format force d.structure
 
--- what a packet shows with the structure in force: nothing, or a descriptor that obeys the structure rule, and its payload
+-- the result of reading a packet with the structure in force: no descriptor, or a descriptor that obeys the structure rule, and its payload
 pub data Showing (S : Type 0) : Type 0 where
   LacksStructure : Showing S
   Unread : Showing S
@@ -98,13 +97,13 @@ abbrev pub read_by : {S : Type 0} → Option S → Option S → Option S
 read_by force None = force
 read_by force (Some s) = Some s
 
--- a structure that was carried has at most 32 decode targets and 32 chains, and each target is guarded by one of the chains
+-- a carried structure has at most 32 decode targets and 32 chains, and one of the chains guards each target
 pub record IsLayout (layout : Layout) : Type 0 where
   pub targets : layout.target_count ≤ 32
   pub chains : layout.chain_count ≤ 32
   pub guards : layout.chain_count ≢ 0 → (t : ℕ) → t < layout.target_count → slice_index layout.guards t < layout.chain_count
 
--- what is true of a descriptor that was read with this structure in force
+-- the properties of a descriptor that was read with this structure in force
 pub record IsDescriptor {S : Type 0} (format : Format S) (force : Option S) (d : Descriptor S) : Type 0 where
   pub number : d.number < 65536
   pub references : d.ref_count ≤ 16
@@ -112,7 +111,7 @@ pub record IsDescriptor {S : Type 0} (format : Format S) (force : Option S) (d :
   pub layout : (s : S) → d.structure ≡ Some s → IsLayout (format.layout s)
   pub mask : (s : S) (m : ℕ) → read_by force d.structure ≡ Some s → d.mask ≡ Some m → m < 2 ^ (format.layout s).target_count
 
--- a descriptor that can be read carries this structure; other values of S needn't be structures at all
+-- some readable descriptor carries this structure; other values of S needn't be structures
 pub record IsCarried {S : Type 0} (format : Format S) (s : S) : Type 0 where
   pub rest : List ℕ
   pub descriptor : Descriptor S
@@ -124,8 +123,8 @@ abbrev pub MayBeInForce : {S : Type 0} → Format S → Option S → Type 0
 MayBeInForce format None = Unit {0}
 MayBeInForce format (Some s) = IsCarried format s
 
--- The facts about reading on which the laws rest: each descriptor that is read is valid, one that is read with no structure in force
--- carries one, a descriptor that carries a structure reads the same whatever is in force, and structures are the same where they are equal.
+-- The facts about reading that the laws use. Each descriptor that is read is valid. A descriptor that is read with no structure in force carries one.
+-- A descriptor that carries a structure is read in the same way, whatever is in force. Structures are the same exactly if they are equal.
 pub record IsFormat {S : Type 0} (format : Format S) : Type 0 where
   pub valid : (force : Option S) (rest : List ℕ) (d : Descriptor S) → MayBeInForce format force → format.descriptor force rest ≡ Reads d
       → IsDescriptor format force d

@@ -1,5 +1,5 @@
--- What is true of the frames of one track.
--- Own facts, over AV1 RTP payload format, Appendix A. They don't say how frames are made; `Frames` makes frames that have them.
+-- Properties of the frames of one track. Own statements, over AV1 RTP payload format, Appendix A. They don't say how frames are made. The
+-- frames that `Frames` makes have these properties.
 use Rattle.std.specs.Prelude.{◌≡◌, ◌≢◌, ◌⊎◌, ◌<◌, List, [], ◌∷◌, true}
 use Rattle.std.specs.List.{AllByRecursion}
 use Rattle.sfu_base.specs.declared.frame.FrameMeaning.{FrameMeaning}
@@ -12,7 +12,7 @@ pub record IsTrackFrame (f : FrameMeaning) : Type 0 where
   pub key_number : f.key ≡ true → f.number ≡ f.start
   pub key_references : f.key ≡ true → references f ≡ []
 
--- g came before f on one track: numbers rise, and g is of f's epoch, or of another one and below f's epoch's start
+-- g precedes f on one track: its number is lower, and it is of f's epoch, or of another epoch and below the start of f's epoch
 pub record Precedes (f g : FrameMeaning) : Type 0 where
   pub rises : g.number < f.number
   pub epochs : ((g.epoch ≡ f.epoch) × (g.start ≡ f.start)) ⊎ ((g.epoch ≢ f.epoch) × (g.number < f.start))

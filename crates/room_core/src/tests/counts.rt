@@ -1,4 +1,4 @@
-// What is counted of subscribers and tracks.
+// Tests of the counters of subscribers and tracks.
 
 use super::{
     HIGHEST, KEY, LAYERED, LOWEST, PLAIN, SSRC, buffer, frame, join, packet, publish, scratch, take,
@@ -34,15 +34,16 @@ fn frames_are_counted_by_their_verdicts(rt: HostRuntime) {
         packet(1, &KEY),
         packet(1, &frame(1, 1, 3)),
         join(3, 1, HIGHEST),
-        // Sequence number 2 is given up; 3 is frame 2, of the second temporal layer, which refers to frames 0 and 1.
+        // Sequence number 2 is given up. The packet with sequence number 3 is frame 2. This frame belongs to the second temporal layer, and refers to
+        // frames 0 and 1.
         packet(1, &frame(3, 2, 5)),
         Call::Tick {
             track: 1,
             moment: 100,
         },
-        // It is late now.
+        // The same packet is late now.
         packet(1, &frame(3, 2, 5)),
-        // Number 4 is padding.
+        // The packet with sequence number 4 is padding.
         packet(1, &[0x80, 0x60, 0, 4, 0, 0, 0, 0, 0x11, 0x11, 0x11, 0x11]),
         take(1),
         take(1),
@@ -84,7 +85,7 @@ fn frames_are_counted_by_their_verdicts(rt: HostRuntime) {
         ..NOTHING
     };
     assert_eq!(rt; room.subscriber_counts(2), Ok(second));
-    // It joined behind frames 0 and 1, to which frame 2 refers.
+    // The third subscriber joined after frames 0 and 1, and frame 2 refers to these frames.
     let third = SubscriberCounts {
         reference: 1,
         ..NOTHING

@@ -1,6 +1,7 @@
-// Queries for a subscriber's decode target, and whether the wish is reached. In the structure of `KEY`, targets 0 and 1 have both spatial
-// layers, targets 2 and 3 the lower one; targets 0 and 2 have both temporal layers, targets 1 and 3 the first. Templates 0 and 1 are
-// switches for targets 2 and 3, templates 3 and 4 for targets 0 and 1 (Appendix A of RTP Payload Format For AV1).
+// Tests of the queries for a subscriber's decode target and for whether the target reaches the wish. In the structure of `KEY`, targets 0 and 1 have
+// both spatial layers, and targets 2 and 3 have only the lower one. Targets 0 and 2 have both temporal layers, and targets 1 and 3 have only the
+// first one. Templates 0 and 1 are switches for targets 2 and 3, and templates 3 and 4 are switches for targets 0 and 1 (Appendix A of RTP Payload
+// Format For AV1).
 
 use super::{HIGHEST, KEY, LAYERED, LOWEST, PLAIN, frame, join, packet, publish, scratch};
 use crate::{DecodeTarget, KeepNone, Room};
@@ -45,16 +46,16 @@ fn a_raised_wish_is_reached_by_a_key_frame(rt: HostRuntime) {
         (join(1, 1, LOWEST), Ok(None), false),
         (packet(1, &KEY), Ok(Some(LEAST)), true),
         (packet(1, &frame(1, 1, 3)), Ok(Some(LEAST)), true),
-        // Frame 4 is a switch for targets 2 and 3 only. Frame 5 is a switch for targets 0 and 1, but refers to frame 1, which wasn't passed.
+        // Frame 4 is a switch for targets 2 and 3 only. Frame 5 is a switch for targets 0 and 1, but it refers to frame 1, which wasn't forwarded.
         (aim(HIGHEST), Ok(Some(LEAST)), false),
         (packet(1, &frame(2, 4, 1)), Ok(Some(LOWER)), false),
         (packet(1, &frame(3, 5, 4)), Ok(Some(LOWER)), false),
         (packet(1, &key(4, 8)), Ok(Some(BOTH)), true),
         (packet(1, &frame(5, 9, 3)), Ok(Some(BOTH)), true),
-        // Frame 12 is a switch for the least target.
+        // Frame 12 is a switch for the lowest target.
         (aim(LOWEST), Ok(Some(BOTH)), false),
         (packet(1, &frame(6, 12, 1)), Ok(Some(LEAST)), true),
-        // The track ends: the last frame still decides what a wish allows.
+        // After the end of the track, the last frame still determines the best target that a wish allows.
         (Call::Unpublish { track: 1 }, Ok(Some(LEAST)), true),
         (aim(HIGHEST), Ok(Some(LEAST)), false),
         (aim(LOWEST), Ok(Some(LEAST)), true),

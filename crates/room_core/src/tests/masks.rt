@@ -1,5 +1,6 @@
-// The mask with which a frame's first packet is sent, byte by byte: RFC 8285 for the header extension's elements, and Appendix A of RTP
-// Payload Format For AV1 for the descriptors, whose structures have one target, and two targets of which target 1 is the lower layer alone.
+// Tests of the mask with which a frame's first packet is sent, byte by byte. The header extension elements have the format of RFC 8285. The
+// descriptors have the format of Appendix A of RTP Payload Format For AV1. One structure has a single target. The other structure has two targets,
+// and target 1 has only the lower layer.
 ghost use Rattle.std.specs.Prelude.{◌≤◌, length};
 
 use super::{HIGHEST, LAYERED, LOWEST, join, publish, scratch, take};
@@ -9,7 +10,7 @@ use std::process::Abort;
 
 const PAYLOAD: [u8; 3] = [0x10, 0x30, 0x00];
 
-// A packet with this byte for marker and payload type, this sequence number, SSRC and header extension.
+// Returns a packet with this sequence number, SSRC and header extension. `marker` is the byte with the marker and the payload type.
 fn laid(marker: u8, seq: u16, ssrc: u8, extension: &[u8]) -> PacketBuf
     requires { length extension.now ≤ 100 }
 {
@@ -21,10 +22,11 @@ fn laid(marker: u8, seq: u16, ssrc: u8, extension: &[u8]) -> PacketBuf
     packet
 }
 
-// A packet that arrives, and the packet that is sent for it: of each, the byte with the marker and the header extension.
+// A packet that arrives, and the packet that is sent for it. Each packet is given by the byte with its marker, and by its header extension.
 type Row<'a> = (u8, &'a [u8], u8, &'a [u8]);
 
-// Checks what a subscriber with this wish is sent for each packet, with sequence numbers from 7 on, and that a resend has the same bytes.
+// Checks the packets that are sent to a subscriber with this wish. Their sequence numbers begin at 7. Also checks that a resend returns the same
+// bytes.
 fn check(rt: &impl Abort, room: &mut Room<KeepNone>, wish: Wish, row: &[Row<'_>]) {
     let mut scratch = scratch();
     assert_eq!(rt;
@@ -55,7 +57,7 @@ fn check(rt: &impl Abort, room: &mut Room<KeepNone>, wish: Wish, row: &[Row<'_>]
 #[test]
 fn a_frames_first_packet_tells_the_targets(rt: HostRuntime) {
     let rows: [(Wish, &[Row<'_>]); 7] = [
-        // A key frame, and a frame with neither structure nor mask.
+        // A key frame is followed by a frame with neither structure nor mask.
         (
             LOWEST,
             &[
@@ -79,7 +81,7 @@ fn a_frames_first_packet_tells_the_targets(rt: HostRuntime) {
                 ),
             ],
         ),
-        // Both layers, and the higher layer of the same temporal unit.
+        // The wish allows both layers. The second packet has the higher layer of the same temporal unit.
         (
             HIGHEST,
             &[
@@ -103,7 +105,7 @@ fn a_frames_first_packet_tells_the_targets(rt: HostRuntime) {
                 ),
             ],
         ),
-        // The lower layer alone, target 1; and a mask of the publisher with both targets.
+        // The wish allows only the lower layer, which is target 1. The publisher's second packet has a mask with both targets.
         (
             LOWEST,
             &[
@@ -131,7 +133,7 @@ fn a_frames_first_packet_tells_the_targets(rt: HostRuntime) {
                 ),
             ],
         ),
-        // Only the first of a frame's two packets is rewritten, though the other carries a mask too.
+        // Only the first packet of the frame is rewritten, although the second packet also carries a mask.
         (
             LOWEST,
             &[
@@ -159,7 +161,7 @@ fn a_frames_first_packet_tells_the_targets(rt: HostRuntime) {
                 ),
             ],
         ),
-        // Elements before and behind, and a byte of padding between them.
+        // There are elements before and after the descriptor's element, and a byte of padding between elements.
         (
             LOWEST,
             &[(
@@ -175,7 +177,7 @@ fn a_frames_first_packet_tells_the_targets(rt: HostRuntime) {
                 ],
             )],
         ),
-        // A two-byte block with elements before and behind, which keeps its profile.
+        // The header extension has elements with two-byte headers, before and after the descriptor's element. It is sent with the same profile.
         (
             HIGHEST,
             &[(
@@ -195,7 +197,7 @@ fn a_frames_first_packet_tells_the_targets(rt: HostRuntime) {
                 ],
             )],
         ),
-        // A descriptor that grows to 17 bytes: the elements get two-byte headers.
+        // The descriptor grows to 17 bytes, so the elements get two-byte headers.
         (
             HIGHEST,
             &[(

@@ -1,4 +1,4 @@
-// Which subscribers have packets queued.
+// Tests of the query for subscribers with queued packets.
 
 use super::{HIGHEST, LOWEST, PLAIN, SSRC, buffer, join, scratch, take};
 use crate::{KeepNone, Room};
@@ -28,7 +28,7 @@ fn subscribers_with_queued_packets_are_listed(rt: HostRuntime) {
     assert_eq!(rt; numbers, [1, 4, 9]);
     assert_eq!(rt; room.ready(2, &mut numbers), 0);
     assert_eq!(rt; room.ready(3, &mut numbers), 0);
-    // One place holds one of them.
+    // A slice of length 1 gets the number of one of these subscribers.
     let mut place = [9];
     assert_eq!(rt; room.ready(1, &mut place), 1);
     assert!(rt; place == [1] || place == [4]);

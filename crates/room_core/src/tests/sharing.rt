@@ -1,4 +1,4 @@
-// What subscribers share of a track, and when the store's buffers are free again.
+// Tests of the packets that a track's subscribers share, and of when the store's buffers are free again.
 
 use super::{
     HIGHEST, KEY, LAYERED, LOWEST, PLAIN, frame, join, outgoing, packet, publish, scratch, take,
@@ -7,7 +7,7 @@ use crate::{KeepNone, Room};
 use sfu_base::{Call, Kind, Reply};
 use std::test::Fail;
 
-// How many free buffers a track's store has now.
+// Returns the number of free buffers of a track's store.
 fn free(room: &Room<KeepNone>, track: u32) -> usize {
     match room.content.tracks.get(&track) {
         Some(known) => known.frame_cache.store.spare(),
@@ -36,7 +36,7 @@ fn subscribers_share_a_packet_and_its_room_is_free_when_none_has_it(
         assert_eq!(rt; room.serve(0, &take(subscriber), &mut out), Reply::Packet);
         assert_eq!(rt; out.packet.bytes(), outgoing(&PLAIN, 7, false).bytes());
     }
-    // The other subscriber still has it, and the store deallocates all unused buffers: a single subscriber shares with nobody.
+    // The other subscriber still has the packet. The store deallocates all unused buffers, because a single subscriber shares no packets.
     assert_eq!(rt;
         room.serve(0, &Call::Leave { subscriber: 2 }, &mut out),
         Reply::Done
@@ -66,7 +66,7 @@ fn a_first_packet_is_stored_once_for_each_mask(rt: HostRuntime) -> Result<(), Fa
     ] {
         assert_eq!(rt; room.serve(0, &call, &mut out), Reply::Done);
     }
-    // Three buffers are used: for the packet as it came, and for the packet with each of two masks.
+    // Three buffers are used: one for the packet as it arrived, and one for the packet with each of two masks.
     assert_eq!(rt; free(&room, 1), 640 + 3 * 256 + 3 * 12 - 3);
     Ok(())
 }
@@ -84,7 +84,8 @@ fn a_packet_that_tells_nothing_is_stored_once(rt: HostRuntime) -> Result<(), Fai
     ] {
         assert_eq!(rt; room.serve(0, &call, &mut out), Reply::Done);
     }
-    // Two buffers are used: for the key frame's packet with its mask, which both subscribers have yet to take, and for this packet.
+    // Two buffers are used: one for the key frame's packet with its mask, and one for the packet of frame 1. Both packets are still queued for both
+    // subscribers.
     assert_eq!(rt; free(&room, 1), 640 + 2 * 256 + 2 * 12 - 2);
     Ok(())
 }

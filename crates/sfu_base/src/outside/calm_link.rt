@@ -5,7 +5,7 @@ ghost use Rattle.sfu_base.specs.Links.{FillsOnlyWhere, after_receive, after_send
 
 use crate::{Failed, Link, PacketBuf};
 
-/// A link that receives no datagram, accepts every datagram that is sent, and discards it. It takes no memory.
+/// A link that never receives a datagram. The link accepts every datagram that is to be sent, and discards it. It takes no memory.
 #[derive(Drop)]
 pub struct CalmLink {
     name: u64,
@@ -21,7 +21,7 @@ impl CalmLink {
         CalmLink { name: 0 }
     }
 
-    /// A link that never fails, with this name: the number of links that its ports had bound before it.
+    /// A link that never fails and has this name. The name is the number of links that its ports bound before it.
     pub fn named(name: u64) -> Self
         ensures told { ⟦<CalmLink as Link>⟧.told result ≡ None }
         ensures faults { ⟦<CalmLink as Link>⟧.faults result ≡ 0 }

@@ -8,9 +8,9 @@ use crate::{Failed, Link, PacketBuf};
 use std::alloc::Global;
 use std::marker::Model;
 
-/// A link in memory that receives its prepared datagrams in order and keeps what is sent. It fails at the receives and at the sends whose
-/// numbers, counted from 0, are in two lists, and at a send that is out of memory. Contracts see the remaining prepared datagrams, the
-/// traffic, the two lists, the numbers of receives and of sends, the name, and the count of faults.
+/// A link in memory that receives its prepared datagrams in order and keeps the datagrams that are sent. Two lists have the numbers, counted
+/// from 0, of the receives and of the sends that fail. A send that runs out of memory fails too. Contracts see the remaining prepared
+/// datagrams, the traffic, the name, and the count of faults. Contracts also see both lists, and the numbers of receives and of sends made.
 #[derive(Drop)]
 pub struct MemLink {
     prepared: Vec<PacketBuf>,
@@ -46,7 +46,7 @@ impl Model for MemLink {
 }
 
 impl MemLink {
-    /// A link that receives these datagrams. It fails at the receives and at the sends whose numbers, counted from 0, are in the two lists.
+    /// A link that receives these datagrams. The two lists have the numbers, counted from 0, of the receives and of the sends that fail.
     pub fn new(
         alloc: Global,
         prepared: Vec<PacketBuf>,
@@ -69,7 +69,7 @@ impl MemLink {
         }
     }
 
-    /// The same link with this name: the number of links that its ports had bound before it.
+    /// The same link with this name. The name is the number of links that its ports bound before it.
     pub fn named(self, name: u64) -> Self
         ensures { result ≡ record self { name = name } }
     {
@@ -116,8 +116,8 @@ impl Link for MemLink {
 
     ghost faults = { λ s. s.faults };
 
-    /// Fails exactly when the call's number is in the list for receives. Otherwise receives the next datagram, or returns `Ok(false)`
-    /// exactly when none is left.
+    /// Fails exactly when the call's number is in the list for receives. Any other call receives the next datagram or, exactly if none is left,
+    /// returns `Ok(false)`.
     fn receive(&mut self, buf: &mut PacketBuf) -> Result<bool, Failed>
         ensures buffer { FillsOnlyWhere result buf.old buf.new }
         ensures told { Some self.new.traffic ≡ after_receive result buf.new (Some self.old.traffic) }
@@ -140,8 +140,8 @@ impl Link for MemLink {
         Ok(came)
     }
 
-    /// Fails if the call's number is in the list for sends, and may fail at any other call, as when out of memory. Otherwise keeps the
-    /// datagram.
+    /// Fails if the call's number is in the list for sends. May fail at any other call too, for example when memory runs out. If it doesn't
+    /// fail, it keeps the datagram.
     fn send(&mut self, packet: &PacketBuf) -> Result<(), Failed>
         ensures told { Some self.new.traffic ≡ after_send result packet.now (Some self.old.traffic) }
         ensures name { self.new.name ≡ self.old.name }

@@ -9,10 +9,10 @@ use crate::{Address, Failed, MemLink, NoMemory, Ports};
 use std::alloc::Global;
 use std::marker::Model;
 
-/// Ports in memory. Binds return the prepared links in order, and after the last one links with nothing prepared. A link's name is the
-/// number of links bound before it. A bind fails if its number, counted from 0, is in a list. `new` reserves capacity for all links that
-/// come back, so no later call takes memory. Contracts see the remaining prepared links, the links that came back, that list, the number
-/// of binds made, the number of ports bound, and the count of faults.
+/// Ports in memory. Binds return the prepared links in order. After the last of these, they return links without prepared datagrams. A link's
+/// name is the number of links bound before it. A bind fails if its number, counted from 0, is in a list. `new` reserves capacity for all links
+/// that come back, so no later call allocates memory. Contracts see the remaining prepared links, the links that came back, and the list of
+/// failing binds. Contracts also see the number of binds made, the number of ports bound, and the count of faults.
 #[derive(Drop)]
 pub struct MemPorts {
     alloc: Global,
@@ -45,8 +45,8 @@ impl Model for MemPorts {
 }
 
 impl MemPorts {
-    /// Ports whose binds return these links, on which no call may have been made yet. The binds whose numbers, counted from 0, are in
-    /// `bind_fails` fail. Returns `NoMemory` if the capacity can't be reserved.
+    /// Ports whose binds return these links. No call may have been made on the links yet. The binds with a number in `bind_fails`, counted from
+    /// 0, fail. Returns `NoMemory` if the capacity can't be reserved.
     pub fn new(alloc: Global, links: Vec<MemLink>, bind_fails: Vec<u64>) -> Result<Self, NoMemory>
         requires { All IsFresh links.items }
         ensures { IfOk result (λ ports. ports ≡ record {
@@ -78,7 +78,7 @@ impl MemPorts {
     }
 }
 
-// Removes and returns the first link, or makes one with nothing prepared if there is none.
+// Removes the first link and returns it. If there is none, returns a link without prepared datagrams.
 fn take_first(alloc: Global, prepared: &mut Vec<MemLink>) -> MemLink
     ensures link { result ≡ first_link prepared.old.items }
     ensures rest { prepared.new.items ≡ drop 1 prepared.old.items }
@@ -102,7 +102,8 @@ impl Ports for MemPorts {
 
     ghost faults = { λ s. s.faults };
 
-    /// Fails exactly when the call's number is in the list. Otherwise returns the next link.
+    /// Fails exactly when the call's number is in the list. Any other call returns the next prepared link, or a link without prepared datagrams if
+    /// none is left.
     fn bind(&mut self, _local: Address, _peer: Address) -> Result<MemLink, Failed>
         requires { self.old.bound < 64 }
         ensures bound { self.new.bound ≡ after_bind result self.old.bound }
@@ -129,7 +130,7 @@ impl Ports for MemPorts {
         Ok(link)
     }
 
-    /// Keeps the port, and counts one fault if the port has any.
+    /// Keeps the port, and counts one fault if the port has one or more.
     fn back(&mut self, port: MemLink)
         requires { length self.old.returned < self.old.bound }
         ensures bound { self.new.bound ≡ self.old.bound }

@@ -22,10 +22,10 @@ pub trait Ports {
     /// How many ports came back.
     ghost back_count: { Self → ℕ };
 
-    /// How often a port couldn't be bound, or came back with faults of its own, at most 2^64 - 1.
+    /// The number of failed binds, plus the number of ports that came back with faults of their own, at most 2^64 - 1.
     ghost faults: { Self → ℕ };
 
-    /// Binds a port to the local address. The port sends to the peer, and receives only from the peer. It has no faults and no recorded
+    /// Binds a port to the local address. The port sends to the peer, and receives only from the peer. The port has no faults and no recorded
     /// traffic yet, and its name is the number of ports bound before it. After `Failed` no port was bound.
     fn bind(&mut self, local: Address, peer: Address) -> Result<Self::Port, Failed>
         requires { bound self.old < 64 }
@@ -37,7 +37,7 @@ pub trait Ports {
         ensures name { IfOk result (λ port. Self.Port.name port ≡ bound self.old) }
         ensures cause { HasCause (faults self.old) (faults self.new) result };
 
-    /// Takes a port back. The count of faults rises exactly when the port's own count is above 0.
+    /// Takes a port back. The count of faults rises exactly when the port has faults of its own.
     fn back(&mut self, port: Self::Port)
         requires { back_count self.old < bound self.old }
         ensures bound { bound self.new ≡ bound self.old }

@@ -26,7 +26,7 @@ fn packet(byte: u8) -> PacketBuf {
     packet
 }
 
-// One link, which brings one datagram.
+// One link, which receives one datagram.
 #[tactic(auto, using(crate::proofs::Fresh::one_more_fresh, crate::proofs::Fresh::none_fresh))]
 fn one(alloc: Global) -> Result<Vec<MemLink>, AllocError>
     ensures { IfOk result (λ links. All IsFresh links.items) }
@@ -39,7 +39,7 @@ fn one(alloc: Global) -> Result<Vec<MemLink>, AllocError>
     Ok(links)
 }
 
-// A link that brings two datagrams, and whose second receive and first send fail.
+// A link that receives two datagrams. Its second receive and its first send fail.
 fn failing(alloc: Global) -> Result<MemLink, AllocError> {
     let mut prepared = Vec::new(alloc);
     prepared.push(packet(1))?;
@@ -49,7 +49,7 @@ fn failing(alloc: Global) -> Result<MemLink, AllocError> {
     Ok(MemLink::new(alloc, prepared, receive_fails, send_fails))
 }
 
-// What a receive returns, and the first byte of the buffer, which was 9 before.
+// The result of a receive, and the first byte of the buffer, which was 9 before.
 fn heard<L: Link>(link: &mut L) -> (Result<bool, Failed>, Option<u8>) {
     let mut buf = packet(9);
     let answer = link.receive(&mut buf);

@@ -1,4 +1,4 @@
-// Which links wake which: the table alone, and with links of this machine.
+// Tests of which links wake which: with the table alone, and with links over sockets of this machine.
 use super::{heard, heard_soon, open, packet};
 use crate::{UdpPorts, WakeTable};
 use mio::{Events, Poll, Token, Waker};
@@ -14,7 +14,7 @@ fn is_called(poll: &mut Poll, events: &mut Events<Global>) -> io::Result<bool> {
     Ok(!events.is_empty())
 }
 
-// Whether a link would sleep now; afterwards it runs.
+// Whether a link would sleep now. Afterwards it is marked as running.
 fn sleeps(table: &WakeTable, number: u64) -> bool {
     let sleeps = table.begin_sleep(number);
     table.end_sleep(number);
@@ -29,19 +29,19 @@ fn a_follower_is_woken_before_its_sleep_in_it_and_when_it_is_gone(
     let mut poll = Poll::new(&rt)?;
     let mut events = Events::with_capacity(rt.alloc(), 2)?;
     table.bind(1, Waker::new(poll.registry(), Token(1))?);
-    // It follows no link: it sent nothing, then what nobody received, then what is too short for a tail.
+    // Link 1 follows no link. It sent nothing, then a datagram that no link received, then one that is too short for a tail.
     table.wake_followers(0, 70);
     table.follow(1, 71);
     table.follow(1, 0);
     table.wake_followers(0, 70);
     assert_eq!(rt; sleeps(&table, 1), true);
-    // It follows link 0. It is woken before its sleep, without its waker.
+    // Link 1 follows link 0. It is woken before it sleeps, so its waker isn't called.
     table.follow(1, 70);
     table.wake_followers(0, 72);
     assert_eq!(rt; is_called(&mut poll, &mut events)?, false);
     assert_eq!(rt; sleeps(&table, 1), false);
     assert_eq!(rt; sleeps(&table, 1), true);
-    // It is woken between its last check and the system's wait, by the waker, once.
+    // Its waker wakes it once, between its last check and the system's wait.
     assert_eq!(rt; table.begin_sleep(1), true);
     table.wake_followers(0, 73);
     table.wake_followers(0, 74);
@@ -49,7 +49,7 @@ fn a_follower_is_woken_before_its_sleep_in_it_and_when_it_is_gone(
     assert_eq!(rt; is_called(&mut poll, &mut events)?, false);
     table.end_sleep(1);
     assert_eq!(rt; sleeps(&table, 1), true);
-    // From now on it follows link 2. It never follows itself.
+    // From now on link 1 follows link 2. It never follows itself.
     table.wake_followers(2, 75);
     table.follow(1, 75);
     table.wake_followers(0, 76);
@@ -58,7 +58,7 @@ fn a_follower_is_woken_before_its_sleep_in_it_and_when_it_is_gone(
     table.follow(1, 77);
     table.wake_followers(1, 78);
     assert_eq!(rt; sleeps(&table, 1), true);
-    // Its poll is dropped while it sleeps.
+    // The poll of link 1 is dropped while the link sleeps.
     assert_eq!(rt; table.begin_sleep(1), true);
     drop(poll);
     table.wake_followers(2, 79);
@@ -111,7 +111,7 @@ fn followers_of_a_busy_link_continue_in_steps_behind_the_moment_that_it_expects(
             Some(Duration::from_micros(micros))
         );
     }
-    // A link that follows none, one that follows a link that isn't busy, and one beyond the table.
+    // In order: a link that follows no link, a follower of a link that isn't busy, and a link beyond the table.
     assert_eq!(rt; table.next_turn(6), None);
     table.wake_followers(2, 71);
     table.follow(1, 71);

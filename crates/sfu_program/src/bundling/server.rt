@@ -4,7 +4,7 @@ ghost use Rattle.sfu_base.specs.Answer.{answer_of, is_starved};
 ghost use Rattle.script_texts.specs.Replies.{answer_text};
 ghost use Rattle.script_texts.specs.WholeLines.{fault_line};
 ghost use Rattle.sfu_driver.specs.declared.halt.Halt.TheVariants.{Starved};
-ghost use Rattle.sfu_commands.specs.Run.{untold};
+ghost use Rattle.script_run.specs.Run.{untold};
 ghost use Rattle.simulcast.specs.Answers.{bundle_made, bundle_pumped, leg_chosen, packet_drawn, packet_redrawn, room_called};
 ghost use Rattle.simulcast.specs.Bundles.{Simulcast, StandsFor, nothing_made};
 ghost use Rattle.simulcast.specs.Made.{just_made};
@@ -31,7 +31,7 @@ pub struct BundleServer {
 }
 
 impl BundleServer {
-    /// A server that has served nothing.
+    /// Returns a server that has served nothing.
     pub fn new(alloc: Global) -> BundleServer
         ensures { StandsFor untold result.bundles (nothing_made []) }
     {
@@ -183,7 +183,7 @@ impl BundleServer {
     }
 }
 
-// Appends the line of a reply that only calls on bundles have to `ready`, the output so far.
+// Appends the line of a bundle's reply to `ready`, the output so far. Only calls on bundles have such replies.
 fn tell(reply: BundleReply, ready: &mut Blob) -> Result<(), Halt>
     ensures ok { OnOk result (ready.new ≡ ready.old ++ (bundle_reply_text reply ++ 10 ∷ [])) }
     ensures err { OnErr result (ready.new ≡ ready.old) }

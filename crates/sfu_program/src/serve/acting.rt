@@ -1,7 +1,7 @@
 // Executes a configuration: makes its calls, runs the sessions of its ports, and returns the status.
 ghost use Rattle.std.specs.Prelude.{◌≡◌, ◌≤◌, ◌<◌, ◌^◌, IfOk, IsTrue, length, vec_len};
 ghost use Rattle.turn_lock.specs.Known.{Fits};
-ghost use Rattle.port_config.specs.Script.{all_apart};
+ghost use Rattle.port_config.specs.ports.Script.{all_apart};
 ghost use Rattle.sfu_program.specs.Serve.{Acts, Ends};
 ghost use Rattle.sfu_program.specs.ServeOpening.{HasMade, first_text};
 ghost use Rattle.sfu_program.specs.ServePorts.{seen_ports};
@@ -20,7 +20,7 @@ use std::sync::Wait;
 use std::thread::Threads;
 use turn_lock::{Seat, Turns};
 
-/// Makes these calls on a new room behind a new lock. Returns lock, seat and the replies' lines.
+/// Makes these calls on a new room behind a new lock. Returns the lock, the seat that made the calls, and the lines of their replies.
 fn open<W: Wait + Sync>(
     rt: &W,
     alloc: Global,

@@ -13,8 +13,8 @@ use std::alloc::Global;
 use std::sync::Wait;
 use std::thread::Threads;
 
-/// Reads a configuration to its end, makes its calls and writes their replies. Then binds its ports in order, and runs a session of `limit` turns for
-/// each port, on a thread of its own. Then releases the ports in order, writes a line for each session, and returns the status.
+/// Reads a configuration to its end, makes its calls, and writes their replies. Then binds its ports in order, and runs a session of `limit`
+/// turns for each port, each session on its own thread. Then releases the ports in order, writes a line for each session, and returns the status.
 pub fn serve<S: Source, K: Sink, P: Ports, C: Clock + Sync, W: Threads + Wait + Sync>(
     rt: &W,
     alloc: Global,

@@ -34,14 +34,14 @@ pub fn add_ends<L>(ended: &[Ended<L>], ready: &mut Blob) -> Result<(), NoMemory>
     Ok(())
 }
 
-// Whether a session made all its turns.
+// Returns whether a session made all its turns.
 fn made_all(end: SessionEnd) -> bool
     ensures { result ≡ is_all end }
 {
     matches!(end, SessionEnd::AllTurns)
 }
 
-/// Whether all sessions made all their turns.
+/// Returns whether all sessions made all their turns.
 pub fn made_all_turns<L>(ended: &[Ended<L>]) -> bool
     ensures { result ≡ all_made (ends_of ended.now) }
 {

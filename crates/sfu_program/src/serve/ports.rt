@@ -22,7 +22,7 @@ pub enum Unbound {
     PortFault,
 }
 
-// The role of the session that a port's line requests.
+// Returns the role of the session that a port's line requests.
 fn role(line: PortRole) -> Role
     ensures { result ≡ role_of line }
 {

@@ -19,7 +19,7 @@ fn number(word: &str) -> Option<u64>
     }
 }
 
-// Reads the number of turns if the two words are the command `serve`, else returns `None`.
+// Returns the number of turns if the two words are the command `serve` and a number; otherwise returns `None`.
 fn read_turns(name: &str, turns: &str) -> Option<u64>
     ensures { MatchOption result ((n : ℕ) → ¬ (IsServe (name.now ∷ turns.now ∷ []) n)) (λ n. IsServe (name.now ∷ turns.now ∷ []) n) }
 {
@@ -33,7 +33,7 @@ fn read_turns(name: &str, turns: &str) -> Option<u64>
     Some(turns)
 }
 
-/// If the arguments are the command `serve` with a number of turns, returns this number, else `None`.
+/// Returns the number of turns if the arguments are the command `serve` and a number; otherwise returns `None`.
 pub fn read_serve(words: &[String]) -> Option<u64>
     ensures { MatchOption result ((n : ℕ) → ¬ (IsServe (map string_bytes words.now) n)) (λ n. IsServe (map string_bytes words.now) n) }
 {

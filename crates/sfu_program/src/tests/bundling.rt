@@ -25,8 +25,8 @@ const THIRD_1: &str = "packet 1 0 90e003ea0000000011111111bede000142c10003103000
 
 const KEY_3_2: &str = "packet 2 0 90e007d20000000044444444bede000348c0000380003a4101000000183000\n";
 
-// What is forwarded: the first track's three frames, then the second's key frame, with a timestamp that is 3,000 higher. The key frames have a mask
-// of their one target.
+// The forwarded packets: the first track's three frames, then the second track's key
+// frame, whose timestamp is 3,000 higher. Each key frame has a mask with its only target.
 const OUT_10: &str = "packet 90e0000a0000000055555555bede000348c00001c0003a4101400000183000\n";
 
 const OUT_11: &str = "packet 90e0000b0000000055555555bede000142c10002103000\n";
@@ -69,7 +69,7 @@ fn one_stream_goes_out_of_two_tracks(rt: HostRuntime) -> Result<(), Fail> {
 #[test]
 fn lines_of_bundles_are_refused_for_their_reasons(rt: HostRuntime) -> Result<(), Fail> {
     let alloc = rt.alloc();
-    // After the bundle of the legs 1 and 2 was created, subscriber 3 joins track 1, 4 a plain track, 5 a track with another id, and 6 track 2.
+    // After a bundle of the legs 1 and 2 was created, further subscribers join: 3 joins track 1, 4 a plain track, 5 a track with another id, and 6 track 2.
     let others = "publish 3 plain 77777777 0\npublish 4 layered 88888888 0 5\njoin 3 1 1 0 0 0\n";
     assert_eq!(rt; run(alloc, others)?.0, 5);
     let others =

@@ -73,7 +73,7 @@ impl<'a> Row<'a> {
         Ok(input)
     }
 
-    // The text that is due after the first `count` bytes of the input.
+    // Returns the text that is due after the first `count` bytes of the input.
     fn due(&self, alloc: Global, count: usize) -> Result<Vec<u8>, AllocError> {
         let mut text = Vec::new(alloc);
         let mut left = count;
@@ -87,7 +87,7 @@ impl<'a> Row<'a> {
         Ok(text)
     }
 
-    // The offsets of the first and of the last byte of each text, and the offset after all texts.
+    // Returns the offsets of the first and of the last byte of each text, and the offset after all texts.
     fn edges(&self, alloc: Global) -> Result<Vec<usize>, AllocError> {
         let mut places = Vec::new(alloc);
         let mut text = Vec::new(alloc);
@@ -111,7 +111,7 @@ fn add_edges(places: &mut Vec<usize>, text: &mut Vec<u8>, more: &[u8]) -> Result
     Ok(())
 }
 
-// The status if these reads and writes of a byte fail, the output, and whether the next read fails.
+// Returns the status if these reads and writes of single bytes fail, the output, and whether the next read fails.
 fn outcome<W: Threads + Wait + Sync>(
     rt: &W,
     alloc: Global,
@@ -315,7 +315,7 @@ const OF_PACKETS: [Row; 7] = [
     },
 ];
 
-// A command that reads nothing, or words that are no command.
+// A command that reads nothing, or words that aren't a command.
 fn unread<'a>(words: &'a [&'a str], text: &'a str, status: u8) -> Row<'a> {
     Row {
         words,
@@ -395,7 +395,7 @@ fn try_row<W: Threads + Wait + Sync>(
     Ok(None)
 }
 
-// The first row with a wrong outcome: its status, and which read or write failed.
+// Returns the first row with a wrong outcome: its status, and which read or write failed.
 fn first_wrong<W: Threads + Wait + Sync>(
     rt: &W,
     alloc: Global,

@@ -10,7 +10,7 @@ use std::test::Fail;
 use std::thread;
 use std::time::{Clock, Duration};
 
-// How often the subscriber's link checks whether the packet was processed, with a millisecond between two checks.
+// The greatest number of times that the subscriber's link checks whether the packet was processed, with a millisecond between two checks.
 const MOST_LOOKS: u32 = 10_000;
 
 // A packet with the publisher's sequence number 1000 (RFC 3550, section 5.1), and the subscriber's first packet, with the number 7 of its line.
@@ -29,8 +29,8 @@ fn new_link(alloc: Global, is_publishers: bool) -> Result<MemLink, AllocError>
     }
 }
 
-// A link of the publisher, or of the subscriber. The publisher's second receive shows that the packet of the first one was processed. The
-// subscriber's first receive waits for this.
+// A link of the publisher, or of the subscriber. The publisher's second receive shows that the
+// packet of its first receive was processed. The subscriber's first receive waits for this.
 #[derive(Drop)]
 struct GatedLink<'a, R> {
     clock: &'a R,
@@ -75,7 +75,7 @@ impl<'a, R: Clock> Link for GatedLink<'a, R> {
     }
 }
 
-// The port that is bound first is the publisher's, any other the subscriber's. The released ports are kept.
+// The port that is bound first is the publisher's; any other port is the subscriber's. The released ports are kept.
 #[derive(Drop)]
 struct GatedPorts<'a, R> {
     alloc: Global,

@@ -8,7 +8,7 @@ use std::test::Fail;
 use std::thread;
 use std::time::{Clock, Duration};
 
-// How often a link checks for the other links, with a millisecond between two checks.
+// The greatest number of times that a link checks for the other links, with a millisecond between two checks.
 const MOST_LOOKS: u32 = 10_000;
 
 // A flag of each link.
@@ -73,7 +73,7 @@ impl<'a, R: Clock> Link for MeetingLink<'a, R> {
     }
 }
 
-// Whether an address is 127.0.0.1 with this port.
+// Returns whether an address is 127.0.0.1 with this port.
 fn is_local(address: Address, port: u64) -> bool {
     address.ip == 0x7f00_0001 && u64::from(address.port) == port
 }

@@ -13,7 +13,7 @@ packet 1 0 90e003e80000000011111111bede000348c0000180003a4101000000183000\r\n\
 packet 1 33 90e003e90000000011111111bede000142c10002103000\ntake 1\ntake 1\ntake 1\nresend 1 65535\n\
 missing 1\nkey 1\nplead 1\nwhy 1 2\naim 1 0 0\ntick 1 99\nleave 1\nunpublish 1\npublish 1 plain 11111111 100";
 
-// Runs a command on these bytes, where some reads fail; returns the status and the output.
+// Runs a command with these bytes as its input; the reads with the numbers `read_fails` fail. Returns the status and the output.
 fn command(
     alloc: Global,
     word: &str,
@@ -27,7 +27,7 @@ fn command(
     Ok((status, sink.written().to_vec(alloc)?))
 }
 
-// The same for a source that returns one byte for each read.
+// Does the same for a source that returns one byte for each read.
 fn command_by_bytes(alloc: Global, word: &str, input: &[u8]) -> Result<(u8, Vec<u8>), AllocError> {
     let words = words(alloc, &[word])?;
     let inner = MemSource::new(input.to_vec(alloc)?, Vec::new(alloc));
@@ -60,7 +60,7 @@ fn records_are_judged_as_soon_as_they_must_be(rt: HostRuntime) -> Result<(), Fai
         (b"\x00SF2\x00\x04", 5, "record 1\n"),
         (b"\x00SF2\x00\x00", 5, "record 1\n"),
         (b"\x00SF2\x08\x0e", 5, "record 1\n"),
-        // A record that is truncated, after each of its bytes.
+        // A record that is cut off, after each of its bytes in turn.
         (b"\x00SF2\x00", 5, "record 1\n"),
         (b"\x00SF2\x00\x05\x09", 5, "record 1\n"),
         (b"\x00SF2\x00\x05\x09\x00", 5, "record 1\n"),
@@ -111,7 +111,7 @@ fn a_kind_has_its_own_length(rt: HostRuntime) -> Result<(), Fail> {
         (13, 5, 5),
         (14, 13, 13),
     ];
-    // The read after the kind fails; it is made only if the record isn't refused before.
+    // The read that follows the kind fails. It is made only if the record isn't refused before.
     for (kind, least, most) in kinds {
         for (length, status) in [
             (least.wrapping_sub(1), 5),

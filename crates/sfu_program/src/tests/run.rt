@@ -13,7 +13,7 @@ const FIRST_REPLIES: &str = "ok\nok\nempty\nok\n";
 pub const USAGE: &str =
     "usage: run, together, trial, check, record, serve, convert, simulcast, cascade, help\n";
 
-/// The words of these texts.
+/// Returns these texts as the words of a command line.
 pub fn words(alloc: Global, texts: &[&str]) -> Result<Vec<String>, AllocError> {
     let mut words = Vec::new(alloc);
     for text in texts {
@@ -44,7 +44,7 @@ fn scripts_get_their_replies_and_statuses(rt: HostRuntime) -> Result<(), Fail> {
         // A line outside the grammar, after the replies.
         ("packet 1 0 80605", 5, "line 5\n"),
         ("packet 1 0 80605\ntake 1\n", 5, "line 5\n"),
-        // A packet behind a gap is held.
+        // A packet after a gap is buffered.
         (
             "packet 1 0 806000030000000011111111cc\nmissing 1\npacket 1 0 806000020000000011111111cc\nmissing 1\n",
             0,

@@ -45,7 +45,7 @@ pub fn served_by<W: Threads + Wait + Sync, P: Ports, C: Clock + Sync>(
     Ok((status, sink.written().to_vec(alloc)?))
 }
 
-/// The same with a clock that advances by 20 milliseconds at each reading.
+/// Does the same with a clock that advances by 20 milliseconds at each reading.
 pub fn served<W: Threads + Wait + Sync, P: Ports>(
     rt: &W,
     alloc: Global,
@@ -59,7 +59,7 @@ pub fn served<W: Threads + Wait + Sync, P: Ports>(
     served_by(rt, alloc, turns, configuration, ports, &clock)
 }
 
-/// A link that receives these datagrams, and fails at these receives and sends.
+/// Returns a link that receives these datagrams, and fails at these receives and sends.
 pub fn link(
     alloc: Global,
     datagrams: &[&[u8]],
@@ -138,7 +138,7 @@ fn a_failed_receive_ends_its_session_alone(rt: HostRuntime) -> Result<(), Fail> 
     Ok(())
 }
 
-// Ports of the publisher of a plain track, of that of a layered track with a subscriber, and of a controller.
+// Configurations: a publisher of a plain track; a publisher of a layered track that has a subscriber; a controller.
 const OF_PLAIN: &str =
     "publish 1 plain 11111111 100\nport 127.0.0.1:5000 127.0.0.1:6000 publisher 1 11111111\n";
 
@@ -161,7 +161,8 @@ const PLI: &[u8] = b"\x81\xce\0\x02\0\0\0\x01\x11\x11\x11\x11";
 #[test]
 fn each_receive_and_each_send_of_a_session_fails_in_turn(rt: HostRuntime) -> Result<(), Fail> {
     let alloc = rt.alloc();
-    // The configuration, the turns, the received datagrams, what is sent if nothing fails, the replies, and the turn of the one send.
+    // Each row has the configuration, the turns, the received datagrams, the datagram
+    // that is sent if nothing fails, the replies, and the turn of the only send.
     let rows: [(&str, &str, u64, &[&[u8]], &[u8], &str, u64); 3] = [
         (OF_PLAIN, "2", 2, &TWO, NACK, "ok\n", 1),
         (OF_LAYERED, "1", 1, &[], PLI, "ok\nok\n", 0),
@@ -217,8 +218,8 @@ fn each_receive_and_each_send_of_a_session_fails_in_turn(rt: HostRuntime) -> Res
 #[test]
 fn a_publisher_is_asked_by_the_clock_that_is_handed_in(rt: HostRuntime) -> Result<(), Fail> {
     let alloc = rt.alloc();
-    // 1001 is missing from turn 1 on, at 12 milliseconds, until 112. The session requests the room's missing numbers at least 20 milliseconds
-    // apart: in the turns 0, 3 and 6, at 5, 26 and 47.
+    // Packet 1001 is missing from turn 1, at 12 milliseconds, until 112 milliseconds. The session asks the room for
+    // missing numbers at intervals of at least 20 milliseconds: in the turns 0, 3 and 6, at 5, 26 and 47 milliseconds.
     let rows: [(&str, usize); 4] = [("3", 0), ("4", 1), ("6", 1), ("7", 2)];
     for (turns, nacks) in rows {
         let link = link(alloc, &TWO, &[], &[])?;

@@ -8,7 +8,7 @@ use sfu_base::{CalmPorts, MemSink, MemSource};
 use std::alloc::{AllocError, Global};
 use std::test::Fail;
 
-// What `tests/models/trial_model.py`, which shares no code with the program, computes for 100,000 frames.
+// The output for 100,000 frames, as computed by `tests/models/trial_model.py`, which shares no code with the program.
 const TRIAL: &str = "made 100000 frames 152000 packets\nlost 1477 repeated 1418 swapped 1473\n\
     subscriber 1 frames 75898 packets 111107 complaints 0\nsubscriber 2 frames 38446 packets 57253 complaints 0\n\
     subscriber 3 frames 21587 packets 23535 complaints 0\n";
@@ -59,7 +59,7 @@ fn an_actor_has_10000_lines(rt: HostRuntime) -> Result<(), Fail> {
     Ok(())
 }
 
-// `first`, and then `each` 10,000 times.
+// The text `first`, followed by 10,000 copies of `each`.
 fn with_10000(alloc: Global, first: &[u8], each: &[u8]) -> Result<Vec<u8>, AllocError> {
     let mut bytes = first.to_vec(alloc)?;
     for _ in 0..10_000 {
@@ -80,14 +80,14 @@ fn key_frames(alloc: Global) -> Result<Vec<u8>, AllocError> {
     Ok(lines)
 }
 
-// The header of a file with one unit, and the unit's first bytes up to its temporal delimiter. The frames' OBUs follow, of three bytes each.
+// The header of a file with one unit, and the first bytes of this unit, up to its temporal delimiter. The frames' OBUs, of three bytes each, follow.
 const ONE_UNIT: &[u8] =
     b"DKIF\0\0\x20\0AV01\0\0\0\0\x90\x5f\x01\0\x01\0\0\0\x01\0\0\0\0\0\0\0\x32\x75\0\0\0\0\0\0\0\0\0\0\x12\0";
 
 #[test]
 fn each_command_that_reads_has_10000_lines(rt: HostRuntime) -> Result<(), Fail> {
     let alloc = rt.alloc();
-    // The words; the input line, or none if the lines are the key frames; the first output, and the output for each line.
+    // Each row has the words, the input line, the first output, and the output for each line. A row without an input line has lines of key frames.
     let rows: [(&[&str], &[u8], &[u8], &[u8]); 5] = [
         (&["run"], b"take 1\n", b"", b"refused nosubscriber\n"),
         (&["simulcast"], b"pump 1\n", b"", b"refused nobundle\n"),

@@ -8,7 +8,7 @@ use crate::hex_text::{MOST_BYTES, decode};
 use crate::words::{leading32, leading64};
 use sfu_base::{Call, PacketBuf};
 
-/// The track, the moment, and the text after them.
+/// Returns the track, the moment, and the text after them.
 #[tactic(auto, unfolding(crate::specs::ReadLines::packet_head_of))]
 #[inline(always)]
 pub fn head(rest: &[u8]) -> Result<(u32, u64, &[u8]), NoLine>
@@ -19,7 +19,7 @@ pub fn head(rest: &[u8]) -> Result<(u32, u64, &[u8]), NoLine>
     Ok((track, moment, rest))
 }
 
-/// The call of a line `packet` with these words after it.
+/// Returns the call of a line `packet` whose further words are `rest`.
 #[tactic(auto, unfolding(crate::specs::ReadLines::packet_of))]
 #[inline(always)]
 pub fn read(rest: &[u8]) -> Result<Call, NoLine>

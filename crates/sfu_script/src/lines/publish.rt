@@ -46,7 +46,7 @@ fn of_kind(track: u32, kind: &[u8], rest: &[u8]) -> Result<Call, NoLine>
     }
 }
 
-/// The call of a line `publish` with these words after it.
+/// Returns the call of a line `publish` whose further words are `rest`.
 #[tactic(auto, unfolding(crate::specs::ReadLines::publish_of))]
 #[inline(always)]
 pub fn read(rest: &[u8]) -> Result<Call, NoLine>

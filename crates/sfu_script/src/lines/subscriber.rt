@@ -65,7 +65,7 @@ fn why(rest: &[u8]) -> Result<Call, NoLine>
     })
 }
 
-/// The call of a command with these words after it.
+/// Returns the call of the line with this command and the further words `rest`.
 #[inline(always)]
 pub fn read(command: SubscriberCommand, rest: &[u8]) -> Result<Call, NoLine>
     ensures { result_ok result ≡ subscriber_call_of command rest.now }

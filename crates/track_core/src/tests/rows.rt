@@ -1,15 +1,15 @@
-//! Rows of tracks with a hold of 100 milliseconds.
+//! Rows of tracks with a hold time of 100 milliseconds.
 //!
-//! A line before `>` is a packet with one OBU element (time in milliseconds, sequence number, descriptor under id 4, payload), a packet as bytes
-//! (`raw`, time, bytes), a time that is reached (`tick`), or a request for the missing numbers (`missing`). After `>` is the expected result: frames
-//! and packets with the sequence numbers of their packets, the refusal, the missing numbers, or nothing.
+//! The part of a line before `>` has one of four forms. A packet with one OBU element has time in milliseconds, sequence number, descriptor with id
+//! 4, and payload. A packet as bytes has `raw`, time and bytes. A tick has `tick` and time. A request for the missing numbers is `missing`. The part
+//! after `>` is the expected result: frames and packets with their sequence numbers, the refusal, the missing numbers, or nothing.
 
-/// Rows of a layered track: what the row shows, and its lines.
+/// Rows of a layered track. Each row has a text that says what it shows, and its lines.
 ///
 /// Key descriptors begin with `c0`. Structure A (`c0 NN NN 80003a410100`) has one target and one chain; its template 1 is a switch with frame
-/// distance 1 and chain link 1. Structure B (`80003b410100`) is the same with template 1 required. Structure C has two targets: its template
-/// 1 is in spatial layer 0, with distance 2 and links 2 and 1; its templates 2 and 3 are in spatial layer 1, with links 1 and 1; template 2
-/// has distance 1, template 3 distances 1 and 2.
+/// distance 1 and chain link 1. Structure B (`80003b410100`) is the same, but its template 1 is required. Structure C has two targets. In
+/// structure C, template 1 is in spatial layer 0, with distance 2 and links 2 and 1. Templates 2 and 3 are in spatial layer 1, both with links
+/// 1 and 1. Template 2 has distance 1, and template 3 has distances 1 and 2.
 pub const LAYERED: [(&str, &str); 10] = [
     (
         "a frame's packets come in any order",

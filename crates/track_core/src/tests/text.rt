@@ -1,4 +1,4 @@
-//! Reads the words of a line, and writes what a track made as text.
+//! Reads the words of a line, and writes a track's results as text.
 
 ghost use Rattle.std.specs.Prelude.{◌<◌};
 
@@ -6,7 +6,7 @@ use sfu_base::{Dti, FrameMeaning, PacketBuf};
 use std::alloc::{AllocError, Global};
 use std::process::Abort;
 
-/// Removes the text up to and including the first byte `at`, and returns the part before that byte.
+/// Removes the text up to and including the first byte `at`. Returns the removed part without that byte.
 pub fn cut<'a>(text: &mut &'a [u8], at: u8) -> &'a [u8] {
     let all = *text;
     for (i, byte) in all.iter().enumerate() {
@@ -51,7 +51,7 @@ pub fn hex(text: &mut &[u8]) -> PacketBuf {
     out
 }
 
-/// Appends bytes, unless there would be more than 1,500 in all.
+/// Appends bytes, unless the buffer would then have more than 1,500.
 pub fn put(out: &mut PacketBuf, bytes: &[u8]) {
     if out.bytes().len() + bytes.len() <= 1500 {
         out.append(bytes);
@@ -67,7 +67,7 @@ fn codes(dtis: &[Dti; 32]) -> [u32; 32] {
     out
 }
 
-/// A frame's meaning as text. The mask's last digit is target 0.
+/// Returns a frame's meaning as text. The mask's last digit is target 0.
 pub fn frame_words(
     rt: &impl Abort,
     alloc: Global,

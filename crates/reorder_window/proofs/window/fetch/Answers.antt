@@ -7,7 +7,7 @@ use Rattle.reorder_window.specs.Held.{held_at}
 use Rattle.reorder_window.proofs.Fetching.{gap_below, got_below, gap_first, nothing_given, others_in, packet_first, some_waits}
 use Rattle.reorder_window.proofs.window.fetch.Goals as goal
 
--- what waits behind a packet isn't what was exchanged
+-- the items that wait after a packet don't depend on the packet that was exchanged
 pub returns-in-Some-clause-rest : goal.returns-in-Some-clause-rest
 returns-in-Some-clause-rest c =
     let old = c.args.ring.now in

@@ -9,7 +9,7 @@ use Rattle.rtp_extension.specs.Seen.{plain}
 use Rattle.rtp_extension.specs.Reading.{elements_of, value_of}
 use Rattle.rtp_extension.proofs.block.find.Goals as goal
 
--- an element found, seen as its value
+-- an element that was found, mapped to its value
 given_value : (id : ℕ) (all : List PlainElement) (r o : Option Element) → r ≡ o → option_map plain r ≡ find (λ (e : PlainElement). e.id == id) all
     → option_map (λ (e : PlainElement). e.value) (option_map plain o) ≡ value_of id all
 given_value id all r o same found =

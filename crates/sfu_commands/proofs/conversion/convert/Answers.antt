@@ -4,11 +4,11 @@ use Rattle.sfu_driver.specs.Point.{byte, due}
 use Rattle.sfu_driver.specs.Statuses.{due_of, number_of}
 use Rattle.sfu_driver.proofs.Cutting.{at}
 use Rattle.sfu_driver.proofs.Meanings.{statuses_same}
-use Rattle.sfu_commands.specs.declared.form.Form.TheVariants.{Lines}
-use Rattle.sfu_commands.specs.Records.{header}
-use Rattle.sfu_commands.specs.Script.{judged_in, script_in}
+use Rattle.script_records.specs.declared.form.Form.TheVariants.{Lines}
+use Rattle.script_records.specs.RecordCut.{header}
+use Rattle.script_records.specs.Script.{judged_in, script_in}
 use Rattle.sfu_commands.specs.Convert.{records_due}
-use Rattle.sfu_commands.proofs.Alike.{failed_before, statuses_behind}
+use Rattle.script_records.proofs.Alike.{failed_before, statuses_behind}
 use Rattle.sfu_commands.proofs.Converting.{convert_is_due, convert_is_part, convert_rule, convert_statuses}
 use Rattle.sfu_commands.proofs.conversion.convert.Goals as goal
 

@@ -9,7 +9,7 @@ use Rattle.sfu_commands.specs.declared.words.Command.TheVariants.{Cascade, Check
 use Rattle.sfu_commands.specs.Check.{Checks, IsCheck}
 use Rattle.sfu_commands.specs.Record.{IsRecord, Records}
 use Rattle.cascade.specs.Command.{ShowsCascade}
-use Rattle.sfu_commands.specs.Trial.{ShowsTrial}
+use Rattle.cascade.specs.Trial.{ShowsTrial}
 use Rattle.sfu_commands.specs.Words.{Says}
 use Rattle.sfu_commands.proofs.IdWords.{one_id}
 use Rattle.sfu_commands.proofs.StreamNumbers.{same_stream}

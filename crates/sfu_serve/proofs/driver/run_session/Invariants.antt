@@ -4,7 +4,7 @@ use Rattle.sfu_serve.specs.Parts.{Done}
 use Rattle.sfu_serve.specs.Replies.{MayStarve}
 use Rattle.sfu_serve.proofs.driver.run_session.Given as goal
 
--- before a turn: so much is done, and the session waits
+-- before a turn: the turns before are done, and the session waits
 abbrev pub invariant-loop-turn : goal.invariant-loop-turn
 invariant-loop-turn g l = record {
   turns : l.turn ≤ l.stage.limit;

@@ -1,5 +1,5 @@
 use Rattle.std.proofs.Common.{ap, sym, ◌∙◌, ◌++◌, List, append-nil, append_assoc}
-use Rattle.actor_script.specs.declared.turns.Placed.{Placed}
+use Rattle.port_config.specs.declared.actors.turns.Placed.{Placed}
 use Rattle.sfu_together.specs.Acting.{kept_by}
 use Rattle.sfu_together.proofs.Seating.{kept_more, none_joined, one_joined}
 use Rattle.sfu_together.proofs.cast.gather.Goals as goal

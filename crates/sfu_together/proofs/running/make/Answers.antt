@@ -1,7 +1,7 @@
 use Rattle.std.proofs.Common.{◌≡◌, ◌∙◌, ◌++◌, ap, List, map}
 use Rattle.std.specs.Prelude.{IsPermutation}
-use Rattle.actor_script.specs.declared.turns.Placed.{Placed}
-use Rattle.actor_script.specs.Places.{AtPlaces}
+use Rattle.port_config.specs.declared.actors.turns.Placed.{Placed}
+use Rattle.port_config.specs.actors.Places.{AtPlaces}
 use Rattle.sfu_together.specs.History.{IsJournal}
 use Rattle.sfu_together.proofs.Ending.{came, ended_of, journal_told}
 use Rattle.sfu_together.proofs.Seating.{all_locks, all_others, if_ok}

@@ -8,7 +8,7 @@ use Rattle.cascade.specs.Standing.{WasFed}
 use Rattle.cascade.proofs.Standing.{given_tick, not_starved, stands_after}
 use Rattle.cascade.proofs.two_rooms.TwoRooms.tick_second.Goals as goal
 
--- both ticks give nothing
+-- neither tick returns a packet
 given_ticks : (n moment : ℕ) (past : List Call) → given_to n (and_call (and_call past (call.Tick 1 moment)) (call.Tick 2 moment)) ≡ given_to n past
 given_ticks n moment past = given_tick n 2 moment (and_call past (call.Tick 1 moment)) ∙ given_tick n 1 moment past
 

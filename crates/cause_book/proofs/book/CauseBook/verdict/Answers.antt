@@ -11,7 +11,7 @@ use Rattle.cause_book.proofs.Judging.{judged_hole, judged_old, judged_step}
 use Rattle.cause_book.proofs.Recent.{judged_recent}
 use Rattle.cause_book.proofs.book.CauseBook.verdict.Goals as goal
 
--- the results from what contracts see are those from all that was written
+-- the results from the steps that contracts see are those from all written steps
 told : (value : List Step) (n : ℕ) (result : Result Verdict Refusal) → result ≡ judged value n
     → (steps : List Step) → IsAfter value steps → AreFalling steps → result ≡ judged steps n
 told value n result is steps at falls = is ∙ ap (λ (l : List Step). judged l n) at ∙ judged_recent steps n falls

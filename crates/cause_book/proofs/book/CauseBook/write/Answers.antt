@@ -22,7 +22,7 @@ ahead c = elim c.match-self.branch [
     above_none None n h = refl
     above_none (Some m) n h = absurd (h m refl)
 
--- contracts see the step in front of the recent earlier ones
+-- contracts see the new step before the recent earlier ones
 seen_after : (c : goal.After-self-3-1)
     → steps_to (Some c.args.number) c.shift_for-self-inside.result (set c.reach.new.steps.items c.place_of-place.result c.new.result)
     ≡ recent (record { number = c.args.number; verdict = c.args.verdict } ∷ c.args.self.now)

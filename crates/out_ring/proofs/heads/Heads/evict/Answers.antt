@@ -7,7 +7,7 @@ use Rattle.out_ring.proofs.Slotted.{evict_there, evict_unshared, shared_there}
 use Rattle.out_ring.proofs.Turned.{put_in_there}
 use Rattle.out_ring.proofs.heads.Heads.evict.Goals as goal
 
--- nothing was put at the place
+-- no head was added at the place yet
 none : (c : goal.Then-index-len) → slice_get (turned c.self.inside.oldest (padded c.self.inside.ring.items)) c.args.place ≡ Some bare
 none c =
     let a = c.self.inside in

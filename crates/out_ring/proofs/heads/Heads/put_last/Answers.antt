@@ -6,7 +6,7 @@ use Rattle.out_ring.proofs.Padded.{bare_there, head_there, put-padded, put_newes
 use Rattle.out_ring.proofs.Slotted.{shared_there}
 use Rattle.out_ring.proofs.heads.Heads.put_last.Goals as goal
 
--- ---- not all heads were put
+-- ---- fewer than 1,536 heads were added
 
 pub returns-then-index-len-clause-shared : goal.returns-then-index-len-clause-shared
 returns-then-index-len-clause-shared c =
@@ -29,7 +29,7 @@ returns-then-index-len-clause-heads c =
     (ap padded c.push_reserved.ensures.items ∙ put-padded a.ring.items a.oldest head last (omega (arith, behind, below)))
     ∙ ap (λ (heads : List Head). drop 1 heads ++ head ∷ []) c.self.view_is
 
--- ---- all were
+-- ---- 1,536 heads were added
 
 pub returns-clause-shared : goal.returns-clause-shared
 returns-clause-shared c =

@@ -9,7 +9,7 @@ use Rattle.out_ring.proofs.Histories.{refusal_stands, resend_stands}
 use Rattle.out_ring.proofs.ring.OutRing.resend.Goals as goal
 use Rattle.out_ring.proofs.ring.OutRing.resend.Goals.{then-takes_ago-eq0-via-then-takes_ago-eq0, then-takes_ago-eq0-via-else-takes_ago-eq0+then-takes_ago-self}
 
--- the number lies at none of the kept packets
+-- none of the kept packets has the number
 far : (c : goal.Joined-then-takes_ago-eq0)
     → ((c.self.inside.next + (65536 - c.args.seq)) % 65536 ≡ 0) ⊎ (c.self.inside.kept < (c.self.inside.next + (65536 - c.args.seq)) % 65536)
 far c = elim c.then-takes_ago-eq0.branch [

@@ -65,6 +65,5 @@ returns-in-Err-clause-does c =
     ∙ ap (first_refusal known.pipeline.value.ssrc known.pipeline.value.window.order) c.bytes.ensures.bytes)
     refl refl refl
 
-pub returns-in-None-clause-does : goal.returns-in-None-clause-does
-returns-in-None-clause-does c =
-    absurd (not_there c.args.self.now.tracks c.args.track c.in-Some.place c.in-Some.ensures c.in-None.ensures.value)
+pub unreachable-requires : goal.unreachable-requires
+unreachable-requires c = not_there c.args.self.now.tracks c.args.track c.in-Some.place c.in-Some.ensures c.in-None.ensures.value

@@ -35,6 +35,5 @@ returns-else-take-clause-does c =
     (subst (λ (b : Bool). FollowsTake c.deref_mut.result.now c.take.new.self b c.args.out.now c.take.new.out) c.if-take.false c.take.ensures.follows))
     refl refl refl
 
-pub returns-in-None-clause-does : goal.returns-in-None-clause-does
-returns-in-None-clause-does c =
-    absurd (not_there c.args.self.now.subscribers c.args.subscriber c.in-Some.place c.in-Some.ensures c.in-None.ensures.value)
+pub unreachable-requires : goal.unreachable-requires
+unreachable-requires c = not_there c.args.self.now.subscribers c.args.subscriber c.in-Some.place c.in-Some.ensures c.in-None.ensures.value

@@ -22,8 +22,8 @@ invariant_of-self-in-Some-get_index_mut-clause-indexed c =
     track_written c.args.self.now.tracks c.args.track c.in-Some.place c.in-Some-get_index_mut.known.now _ (tracks_of c.args.self.now.subscribers.entries) (tracks_of c.work_off.new.subscribers.entries)
     c.args.self.now.highest_track c.get_index_mut.ensures.unique there.0 there.1 refl c.work_off.ensures.tracks c.args.self.now.indexed
 
-pub returns-in-Some-get_index_mut-clause-does : goal.returns-in-Some-get_index_mut-clause-does
-returns-in-Some-get_index_mut-clause-does c =
+pub returns-clause-does : goal.returns-clause-does
+returns-clause-does c =
     let there = known_there c.args.self.now.tracks c.args.track c.in-Some.place c.in-Some-get_index_mut.known.now c.in-Some.ensures c.in-Some-get_index_mut.ensures.value in
     let written = written_at c.args.track c.args.self.now.tracks c.in-Some.place c.in-Some-get_index_mut.known.now _ c.get_index_mut.ensures.unique there.0 in
     let known = c.in-Some-get_index_mut.known.now in
@@ -35,6 +35,5 @@ returns-in-Some-get_index_mut-clause-does c =
     c.deref_mut-in-Some-get_index_mut.ensures.value c.work_off.ensures.worked)
     c.work_off.ensures.count refl refl (λ past p e h. tick_answers c.args.track c.args.moment past p e)
 
-pub returns-in-None-clause-does : goal.returns-in-None-clause-does
-returns-in-None-clause-does c =
-    absurd (not_there c.args.self.now.tracks c.args.track c.in-Some.place c.in-Some.ensures c.in-None.ensures.value)
+pub unreachable-requires : goal.unreachable-requires
+unreachable-requires c = not_there c.args.self.now.tracks c.args.track c.in-Some.place c.in-Some.ensures c.in-None.ensures.value

@@ -4,7 +4,7 @@ use Rattle.sfu_base.specs.declared.call.Call.{Call}
 use Rattle.sfu_script.specs.declared.ports.PortLine.{PortLine}
 use Rattle.sfu_program.specs.Serve.{Acts}
 use Rattle.sfu_program.specs.ServePorts.{seen_ports}
-use Rattle.port_config.specs.Script.{all_apart, configuration_of}
+use Rattle.port_config.specs.ports.Script.{all_apart, configuration_of}
 use Rattle.sfu_program.proofs.ServeActing.{acts_before, acts_complete, acts_only}
 use Rattle.port_config.proofs.Apart.{apart_ports}
 use Rattle.port_config.proofs.Counts.{few_calls, few_ports}

@@ -10,7 +10,7 @@ use Rattle.turn_lock.specs.History.{entry}
 use Rattle.sfu_together.specs.Turns.{entry_of, entries_of}
 use Rattle.sfu_together.proofs.played_room.PlayedRoomHeld.serve.Goals as goal
 
--- a room that stands for a history stands for an equal one
+-- a room that represents a history represents an equal one
 stands_too : {R : Type 0} {noted : R → Option (List Noted)} {room : Room R} {one other : List Entry} → one ≡ other → Stands noted room one → Stands noted room other
 stands_too {R} {noted} {room} same = subst (λ (entries : List Entry). Stands noted room entries) same
 

@@ -1,4 +1,4 @@
-use Rattle.std.proofs.Common.{◌∙◌, ◌∷◌, ◌++◌, ℕ, List, subst, sym, ap, Bool, cond, IfSome, []}
+use Rattle.std.proofs.Common.{◌∙◌, ◌∷◌, ◌++◌, ℕ, List, refl, subst, sym, ap, Bool, cond, IfSome, []}
 use Rattle.std.specs.Prelude.{map, slice_get}
 use Rattle.packet_format.specs.Packets.{packet_of}
 use Rattle.reorder_window.specs.Events.{Piece}
@@ -8,7 +8,7 @@ use Rattle.track_core.specs.Pieces.{IsTaken, item_by, items_of}
 use Rattle.track_core.specs.Track.{Seen, StandsFor, gives, made_by, made_of, packets_of, and_piece, with_meaning}
 use Rattle.track_core.specs.Kept.{seen}
 use Rattle.track_core.proofs.OfFrames.{made_alone, of_frame}
-use Rattle.track_core.proofs.WithMeaning.{given_with_meaning}
+use Rattle.track_core.proofs.WithMeaning.{few_with_meaning, given_with_meaning}
 use Rattle.track_core.proofs.Orders.{arrived_step, bound_step, fetched, framed_step, frames_step, gone_step, key_frames_step, item_here, made_with, packets_given, packets_same, plain_before, made_step, some_stood, step_stands, taken_step, worked_step}
 use Rattle.track_core.proofs.track.Track.advance.Goals as goal
 
@@ -27,32 +27,32 @@ worked-made-requires-clause-bound c =
     let f = fetched c.self.inside.window.waiting c.in-Some.item c.self.inside.slot.value c.next_slot.new.slot.value c.in-Some.ensures.item c.next_slot.ensures.bytes in
     bound_step (seen c.self.inside) h.events h.worked h.stands c.in-Some.item c.self.inside.slot.value c.next_slot.new.slot.value f
 
-pub add-requires-clause-arrived : goal.add-requires-clause-arrived
-add-requires-clause-arrived c =
+pub note-requires-clause-arrived : goal.note-requires-clause-arrived
+note-requires-clause-arrived c =
     let h = c.self.invariant.stood in
     let f = fetched c.self.inside.window.waiting c.in-Some.item c.self.inside.slot.value c.next_slot.new.slot.value c.in-Some.ensures.item c.next_slot.ensures.bytes in
     arrived_step (seen c.self.inside) h.events h.worked h.stands c.in-Some.item c.self.inside.slot.value c.next_slot.new.slot.value f
 
-pub add-requires-clause-given_up : goal.add-requires-clause-given_up
-add-requires-clause-given_up c =
+pub note-requires-clause-given_up : goal.note-requires-clause-given_up
+note-requires-clause-given_up c =
     let h = c.self.invariant.stood in
     let f = fetched c.self.inside.window.waiting c.in-Some.item c.self.inside.slot.value c.next_slot.new.slot.value c.in-Some.ensures.item c.next_slot.ensures.bytes in
     gone_step (seen c.self.inside) h.events h.worked h.stands c.in-Some.item c.self.inside.slot.value c.next_slot.new.slot.value f
 
-pub add-requires-clause-frames : goal.add-requires-clause-frames
-add-requires-clause-frames c =
+pub note-requires-clause-frames : goal.note-requires-clause-frames
+note-requires-clause-frames c =
     let h = c.self.invariant.stood in
     let f = fetched c.self.inside.window.waiting c.in-Some.item c.self.inside.slot.value c.next_slot.new.slot.value c.in-Some.ensures.item c.next_slot.ensures.bytes in
     frames_step (seen c.self.inside) h.events h.worked h.stands c.in-Some.item c.self.inside.slot.value c.next_slot.new.slot.value f
 
-pub add-requires-clause-key_frames : goal.add-requires-clause-key_frames
-add-requires-clause-key_frames c =
+pub note-requires-clause-key_frames : goal.note-requires-clause-key_frames
+note-requires-clause-key_frames c =
     let h = c.self.invariant.stood in
     let f = fetched c.self.inside.window.waiting c.in-Some.item c.self.inside.slot.value c.next_slot.new.slot.value c.in-Some.ensures.item c.next_slot.ensures.bytes in
     key_frames_step (seen c.self.inside) h.events h.worked h.stands c.in-Some.item c.self.inside.slot.value c.next_slot.new.slot.value f
 
-pub add-requires-clause-framed : goal.add-requires-clause-framed
-add-requires-clause-framed c =
+pub note-requires-clause-framed : goal.note-requires-clause-framed
+note-requires-clause-framed c =
     let h = c.self.invariant.stood in
     let f = fetched c.self.inside.window.waiting c.in-Some.item c.self.inside.slot.value c.next_slot.new.slot.value c.in-Some.ensures.item c.next_slot.ensures.bytes in
     framed_step (seen c.self.inside) h.events h.worked h.stands c.in-Some.item c.self.inside.slot.value c.next_slot.new.slot.value f
@@ -71,7 +71,7 @@ invariant_of-self-2 c =
             c.worked-made.ensures.kind _
             (c.worked-made.ensures.made (items_of h.worked) h.stands.layers
             ∙ ap (λ (b : Bool). made_by c.self.inside.layers (items_of h.worked) b c.next_slot.new.slot.value) c.is_packet.ensures)
-            c.newest_with-self-inside.ensures c.frame_count-packets.result c.frame_count-packets.ensures.count c.frame_count-packets.ensures.few c.add.ensures;
+            c.note.ensures.newest _ refl (few_with_meaning c.worked-made.new.meaning c.worked-made.result _ c.note.ensures.few) c.note.ensures.tally;
       };
       slot = λ given plain. subst IsTaken (sym (c.worked-made.ensures.plain (plain_before c.self.inside.layers c.worked-made.new.layers c.worked-made.ensures.kind plain)))
           (taken_step (seen c.self.inside) h.events h.worked h.stands c.in-Some.item c.self.inside.slot.value c.next_slot.new.slot.value f
@@ -82,7 +82,7 @@ pub returns-clause-stands : goal.returns-clause-stands
 returns-clause-stands c events worked stands =
     let f = fetched c.self.inside.window.waiting c.in-Some.item c.self.inside.slot.value c.next_slot.new.slot.value c.in-Some.ensures.item c.next_slot.ensures.bytes in
     let before : StandsFor (seen c.self.inside) events worked = subst (λ (t : Seen). StandsFor t events worked) (sym c.self.view_is) stands in
-    let now : Seen = seen (record { ssrc = c.self.inside.ssrc; window = c.next_slot.new.self; slot = c.worked-made.new.slot; layers = c.worked-made.new.layers; given = c.is_given-self-inside.result; meaning = c.worked-made.new.meaning; newest = c.newest_with-self-inside.result; tally = c.add.new.self }) in
+    let now : Seen = seen (record { ssrc = c.self.inside.ssrc; window = c.next_slot.new.self; slot = c.worked-made.new.slot; layers = c.worked-made.new.layers; given = c.is_given-self-inside.result; meaning = c.worked-made.new.meaning; newest = c.note.new.newest; tally = c.note.new.tally }) in
     let more = worked_step (seen c.self.inside) events worked before c.in-Some.item c.self.inside.slot.value c.next_slot.new.slot.value f in
     subst (λ (ps : List Piece). StandsFor now events ps)
     (more ∙ ap (λ (t : Seen). and_piece worked (slice_get t.window.waiting 0)) c.self.view_is)
@@ -92,7 +92,7 @@ returns-clause-stands c events worked stands =
     c.worked-made.ensures.kind _
     (c.worked-made.ensures.made (items_of worked) before.layers
     ∙ ap (λ (b : Bool). made_by c.self.inside.layers (items_of worked) b c.next_slot.new.slot.value) c.is_packet.ensures)
-    c.newest_with-self-inside.ensures c.frame_count-packets.result c.frame_count-packets.ensures.count c.frame_count-packets.ensures.few c.add.ensures)
+    c.note.ensures.newest _ refl (few_with_meaning c.worked-made.new.meaning c.worked-made.result _ c.note.ensures.few) c.note.ensures.tally)
 
 pub returns-clause-made : goal.returns-clause-made
 returns-clause-made c events worked stands =

@@ -2,7 +2,6 @@ use Rattle.std.proofs.Common.{◌≡◌, ◌∙◌, ap, refl, subst, sym, Bool, 
 use Rattle.std.specs.Prelude.{is_some}
 use Rattle.std.specs.Option.{option_map}
 use Rattle.track_core.specs.declared.layers.Layers.{Layers}
-use Rattle.track_core.specs.declared.counts.Tally.{Tally}
 use Rattle.track_core.specs.Counts.{counts_after, counts_by}
 use Rattle.track_core.specs.Track.{Seen, StandsFor, id_of}
 use Rattle.track_core.specs.Kept.{seen}

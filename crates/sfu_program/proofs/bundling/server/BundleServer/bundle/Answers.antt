@@ -1,5 +1,5 @@
 use Rattle.std.proofs.Common.{Ok, Err}
-use Rattle.sfu_commands.specs.Run.{untold}
+use Rattle.script_run.specs.Run.{untold}
 use Rattle.simulcast.specs.Answers.{bundle_made}
 use Rattle.simulcast.proofs.Answers.{bundle_answers}
 use Rattle.sfu_program.specs.SimulcastTexts.{done_text}

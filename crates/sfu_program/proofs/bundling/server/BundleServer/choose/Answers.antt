@@ -1,5 +1,5 @@
 use Rattle.std.proofs.Common.{Ok, Err}
-use Rattle.sfu_commands.specs.Run.{untold}
+use Rattle.script_run.specs.Run.{untold}
 use Rattle.simulcast.specs.Answers.{leg_chosen}
 use Rattle.simulcast.proofs.Answers.{choose_answers}
 use Rattle.sfu_program.specs.SimulcastTexts.{done_text}

@@ -1,5 +1,5 @@
 use Rattle.std.proofs.Common.{Ok, Err, refl}
-use Rattle.sfu_commands.specs.Run.{untold}
+use Rattle.script_run.specs.Run.{untold}
 use Rattle.simulcast.specs.Answers.{bundle_pumped}
 use Rattle.simulcast.proofs.Answers.{pump_answers}
 use Rattle.sfu_program.specs.SimulcastTexts.{pumped_text}

@@ -1,5 +1,5 @@
 use Rattle.std.proofs.Common.{inr}
-use Rattle.sfu_commands.specs.Run.{untold}
+use Rattle.script_run.specs.Run.{untold}
 use Rattle.simulcast.specs.Answers.{packet_redrawn}
 use Rattle.simulcast.proofs.Answers.{redraw_answers}
 use Rattle.sfu_program.specs.SimulcastTexts.{packet_text}

@@ -1,0 +1,3 @@
+pub mod ConvertLaws
+pub mod MadePackets
+pub mod RecordedLaws

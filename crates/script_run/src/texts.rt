@@ -1,0 +1,21 @@
+// The line that says which line or record of a script is outside the grammar.
+ghost use Rattle.std.specs.Prelude.{◌≡◌, ◌++◌, OnOk, OnErr};
+ghost use Rattle.script_records.specs.Script.{fault_in};
+
+use script_records::Form;
+use script_texts::{add_fault, add_record_fault};
+use sfu_base::{Blob, NoMemory};
+
+/// Appends the line `line N` or `record N` (N is `number`) to `ready`, the output so far. It says that this line or record of the script is outside
+/// the grammar. After `NoMemory` the output is unchanged.
+#[cold]
+#[inline(never)]
+pub fn add_unit_fault(form: Form, number: u64, ready: &mut Blob) -> Result<(), NoMemory>
+    ensures ok { OnOk result (ready.new ≡ ready.old ++ fault_in form number) }
+    ensures err { OnErr result (ready.new ≡ ready.old) }
+{
+    match form {
+        Form::Lines => add_fault(number, ready),
+        Form::Records => add_record_fault(number, ready),
+    }
+}

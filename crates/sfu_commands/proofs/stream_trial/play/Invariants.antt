@@ -1,9 +1,0 @@
-use Rattle.std.proofs.Common.{length}
-use Rattle.sfu_commands.proofs.Playing.{IsPlaying}
-use Rattle.sfu_commands.proofs.stream_trial.play.Given as goal
-
-abbrev pub invariant-events : goal.invariant-events
-invariant-events l = IsPlaying l.stage l.maker.left l.maker.counts (record { frames = l.fn.frames; start = l.fn.start; loss = l.fn.loss })
-
-abbrev pub decreases-events : goal.decreases-events
-decreases-events l = length l.maker.left

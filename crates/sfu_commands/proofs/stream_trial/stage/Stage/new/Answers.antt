@@ -1,7 +1,0 @@
-use Rattle.sfu_commands.proofs.Staging.{begins}
-use Rattle.sfu_commands.proofs.stream_trial.stage.Stage.new.Goals as goal
-
-pub returns : goal.returns
-returns c =
-    begins c.in_ok-room.room (record { packet = c.new-4.result; names = c.new-5.result }) c.in_ok-first.first c.in_ok-second.second c.in_ok-third.third
-    c.in_ok-room.ensures c.in_ok-first.ensures c.in_ok-second.ensures c.in_ok-third.ensures
