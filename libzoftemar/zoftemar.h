@@ -11,7 +11,7 @@
  *         send_to_subscriber(out, r.first);
  *     zoftemar_close(&room);
  *
- * A room has tracks, subscribers and bundles. A track has one publisher's packets, and each subscriber is of one track. For callers that keep to "What the
+ * A room has tracks, subscribers and bundles. A track has one publisher's packets; each subscriber joins one track. For callers that keep to "What the
  * caller owes", it is proved what each call does in the room (crates/room_core/README.md), and that these functions make those calls
  * (crates/room_c/README.md). Nothing checks a caller in C.
  *
@@ -113,14 +113,14 @@ enum zoftemar_code {
     ZOFTEMAR_LINK = 21,             /* first: the frame at which the chain broke; second: the chain's previous frame, which wasn't forwarded */
     ZOFTEMAR_UNOPENED = 22,         /* first: the frame since which no target has been open */
     ZOFTEMAR_HOLE = 23,             /* no whole frame with this number came since the join. first: the next higher number that came; has: whether a
-                                     * lower one came, less than 4,096 below the newest; second: the highest of those, if so */
+                                     * lower number came, less than 4,096 below the newest; second: the highest such number, if so */
 
     /* Why a call was refused. */
     ZOFTEMAR_NO_TRACK = 32,         /* no live track has this number, or the subscriber's track has ended */
     ZOFTEMAR_NO_SUBSCRIBER = 33,    /* no live subscriber has this number */
     ZOFTEMAR_NUMBER_USED = 34,      /* the number isn't above `first`, the highest that was ever live, or that a bundle has (0 if none) */
     ZOFTEMAR_TOO_MANY = 35,         /* first: how many are live, which is the maximum: 64 tracks, 256 subscribers or 64 bundles */
-    ZOFTEMAR_BAD_EXTENSION_ID = 36, /* the id is 0 or 15; a recorder's is 0 */
+    ZOFTEMAR_BAD_EXTENSION_ID = 36, /* the id is 0 or 15; for a recorder: the id is 0 */
     ZOFTEMAR_TOO_BIG = 37,          /* first: the packet's length in bytes, more than 1,500 */
     ZOFTEMAR_UNREADABLE = 38,       /* not RTP. first, the fault: 0 fewer than 12 bytes, 1 the version, 2 the CSRCs, 3 the header extension,
                                      * 4 the padding; in zoftemar_unwrap also 5: no original sequence number */
@@ -129,7 +129,7 @@ enum zoftemar_code {
     ZOFTEMAR_LATE = 41,             /* first: the unwrapped sequence number that the track waits for, above the packet's */
     ZOFTEMAR_REPEAT = 42,           /* the packet is already buffered, behind a gap; once it has left the buffer: ZOFTEMAR_LATE */
     ZOFTEMAR_EMPTY = 43,            /* no packet is queued for the subscriber, or by the bundle */
-    ZOFTEMAR_NOT_KEPT = 44,         /* first: the oldest kept sequence number; second: that of the next take or draw; both as on the wire */
+    ZOFTEMAR_NOT_KEPT = 44,         /* first: the oldest kept sequence number; second: the one of the next take or draw; both of 16 bits */
     ZOFTEMAR_AHEAD = 45,            /* has: whether a frame came since the join (never on a plain track); first: the newest frame's number, if so */
     ZOFTEMAR_TOO_OLD = 46,          /* first: the lowest frame number that may be asked for */
     ZOFTEMAR_PLAIN = 47,            /* the subscriber's track is plain */
@@ -142,7 +142,7 @@ enum zoftemar_code {
     /* Errors found before the room is called: nothing changes. */
     ZOFTEMAR_NO_ROOM = 64,          /* the handle has no room */
     ZOFTEMAR_HAS_ROOM = 65,         /* zoftemar_open: the handle already has a room */
-    ZOFTEMAR_NO_SPACE = 66,         /* `out` has fewer than ZOFTEMAR_PACKET_ROOM bytes or ZOFTEMAR_NAMES_ROOM sequence numbers; of a file: no byte */
+    ZOFTEMAR_NO_SPACE = 66,         /* `out` has fewer than ZOFTEMAR_PACKET_ROOM bytes or ZOFTEMAR_NAMES_ROOM sequence numbers; for a file: 0 bytes */
     ZOFTEMAR_TOO_LONG = 67,         /* a packet or datagram of more than ZOFTEMAR_PACKET_ROOM bytes; in zoftemar_wrap, of more than 2,046 */
     ZOFTEMAR_NO_SESSION = 68,       /* the handle has no session */
     ZOFTEMAR_HAS_SESSION = 69,      /* opening a session: the handle already has one */
@@ -154,12 +154,12 @@ enum zoftemar_code {
     ZOFTEMAR_BAD_LEGS = 75,         /* a bundle has two or three legs */
 
     /* Faults of a recorder's packets. The first one is returned by each later zoftemar_recorder_feed. */
-    ZOFTEMAR_UNREAD = 80,           /* not RTP, no or a bad payload, no or a bad descriptor, or a structure that isn't in force, without a key frame */
+    ZOFTEMAR_UNREAD = 80,           /* not RTP; payload or descriptor missing or bad; or a structure that isn't in force, without a key frame */
     ZOFTEMAR_OTHER_SOURCE = 81,     /* first: the packet's SSRC; second: the first packet's */
     ZOFTEMAR_OUT_OF_SEQUENCE = 82,  /* first: the packet's sequence number; second: the last packet's, which should be one less */
     ZOFTEMAR_NO_STRUCTURE = 83,     /* the descriptor needs a template dependency structure, and none came */
     ZOFTEMAR_NOT_WHOLE = 84,        /* the packets of a frame don't form a whole frame */
-    ZOFTEMAR_MISSING_REFERENCE = 85, /* first: the frame's 16-bit number; second: how many frame numbers back the frame is that it lacks */
+    ZOFTEMAR_MISSING_REFERENCE = 85, /* first: the frame's 16-bit number; second: how many frame numbers back the missing frame is */
     ZOFTEMAR_NOT_OBU = 86           /* an element of the frame that the packet ends isn't an OBU (AV1, section 5.3.1) */
 };
 
@@ -268,20 +268,20 @@ ZOFTEMAR_USE ZOFTEMAR_NONNULL(1) zoftemar_reply zoftemar_due(const zoftemar_room
 ZOFTEMAR_USE ZOFTEMAR_NONNULL(1) zoftemar_reply zoftemar_newest_frame(const zoftemar_room *room, uint32_t track);
 
 /* Writes to `out` the numbers of the track's subscribers that have packets queued, each once, in no particular order, as many as fit: ZOFTEMAR_READY.
- * If these are fewer than `count`, they are all. A room has at most 256 subscribers. After the end of a track, its subscribers count until they leave.
- * The room isn't changed. After each zoftemar_packet and zoftemar_tick, take for these alone. */
+ * If they are fewer than `count`, none is left out. A room has at most 256 subscribers. After the end of a track, its subscribers count until they leave.
+ * The room isn't changed. After each zoftemar_packet and zoftemar_tick, take only for these. */
 ZOFTEMAR_USE ZOFTEMAR_NONNULL(1) zoftemar_reply zoftemar_ready(const zoftemar_room *room, uint32_t track, uint32_t *out, size_t count);
 
-/* What is counted of a subscriber since its join. Each whole frame of its layered track since then has one of the verdicts of zoftemar_why, which is
+/* Counts for a subscriber since its join. Each whole frame of its layered track since then has one of the verdicts of zoftemar_why, which is
  * counted; a plain track has no frames. A count stays at 2^64 - 1 once it is there. */
 typedef struct zoftemar_subscriber_counts {
     uint64_t passed;        /* frames that were forwarded (ZOFTEMAR_PASSED) */
-    uint64_t not_of_target; /* frames withheld since they aren't in the decode target (ZOFTEMAR_NOT_OF_TARGET): by the wish, so no fault */
-    uint64_t behind;        /* frames withheld since they refer to a frame before the epoch (ZOFTEMAR_BEHIND) */
-    uint64_t reference;     /* frames withheld since they refer to a frame that wasn't forwarded (ZOFTEMAR_REFERENCE) */
-    uint64_t full;          /* frames withheld since the queue had no place for all their packets (ZOFTEMAR_FULL) */
-    uint64_t link;          /* frames withheld since the target's chain is broken (ZOFTEMAR_LINK) */
-    uint64_t unopened;      /* frames withheld since no target is open (ZOFTEMAR_UNOPENED) */
+    uint64_t not_of_target; /* frames withheld because they aren't in the decode target (ZOFTEMAR_NOT_OF_TARGET): by the wish, so no fault */
+    uint64_t behind;        /* frames withheld because they refer to a frame before the epoch (ZOFTEMAR_BEHIND) */
+    uint64_t reference;     /* frames withheld because they refer to a frame that wasn't forwarded (ZOFTEMAR_REFERENCE) */
+    uint64_t full;          /* frames withheld because the queue had no space for all their packets (ZOFTEMAR_FULL) */
+    uint64_t link;          /* frames withheld because the target's chain is broken (ZOFTEMAR_LINK) */
+    uint64_t unopened;      /* frames withheld because no target is open (ZOFTEMAR_UNOPENED) */
     uint64_t queued;        /* packets that were queued, also those taken since */
     uint64_t taken;         /* packets that were taken: by zoftemar_take, a session or a pump */
     uint64_t resent;        /* retransmissions: by zoftemar_resend or a session, each time; a bundle's redraws aren't counted */
@@ -290,7 +290,7 @@ typedef struct zoftemar_subscriber_counts {
     uint64_t spare[4];      /* 0: for later counts */
 } zoftemar_subscriber_counts;
 
-/* What is counted of a track since its publish. */
+/* Counts for a track since its publish. */
 typedef struct zoftemar_track_counts {
     uint64_t arrived;    /* packets that came, and left the reorder buffer in order */
     uint64_t given_up;   /* sequence numbers that were given up: no packet with such a number is accepted any more */
@@ -300,7 +300,7 @@ typedef struct zoftemar_track_counts {
     uint64_t spare[3];   /* 0: for later counts */
 } zoftemar_track_counts;
 
-/* Two questions about what is counted, which don't change the room: ZOFTEMAR_COUNTS. On a refusal `out` is unchanged. After the end of its track a
+/* Two questions for these counts, which don't change the room: ZOFTEMAR_COUNTS. On a refusal `out` is unchanged. After the end of its track a
  * subscriber's frames stay as they are. */
 ZOFTEMAR_USE ZOFTEMAR_NONNULL(1, 3) zoftemar_reply zoftemar_counts_of_subscriber(const zoftemar_room *room, uint32_t subscriber,
                                                                                  zoftemar_subscriber_counts *out);
@@ -356,7 +356,7 @@ ZOFTEMAR_NONNULL(1) zoftemar_reply zoftemar_session_waited(zoftemar_session *ses
 
 /* Makes the session's calls on the room, up to the next datagram to send to its peer. ZOFTEMAR_PACKET: that datagram is in `out`. ZOFTEMAR_DONE: no
  * call is left until the next datagram or moment. `count` is at least ZOFTEMAR_PACKET_ROOM. ZOFTEMAR_NO_SESSION, ZOFTEMAR_NO_ROOM,
- * ZOFTEMAR_NO_SPACE: nothing changes. ZOFTEMAR_BOUND: the session's next call is a take from a leg of bundle `first`, and stays to be made; the calls
+ * ZOFTEMAR_NO_SPACE: nothing changes. ZOFTEMAR_BOUND: the session's next call is a take from a leg of bundle `first`, and is still to be made; the calls
  * before it were made. The room's replies aren't reported: a packet that the room refuses is ignored. */
 ZOFTEMAR_USE ZOFTEMAR_NONNULL(1, 2) zoftemar_reply zoftemar_session_work(zoftemar_session *session, zoftemar_room *room, uint32_t seat,
                                                                          uint8_t *out, size_t count);
@@ -365,8 +365,8 @@ ZOFTEMAR_USE ZOFTEMAR_NONNULL(1, 2) zoftemar_reply zoftemar_session_work(zoftema
  *
  * A publisher that sends simulcast sends each of its sizes as a track of its own. A bundle merges the packets of two or three subscribers, its legs, one
  * of each track, into one stream: one SSRC and consecutive sequence numbers. One leg at a time is active, and its packets are forwarded; the stream
- * changes to the chosen leg at that leg's next key frame. Leg 1 is the first one listed. A leg is taken from by its bundle alone: zoftemar_take and
- * zoftemar_leave of it, and work of its session, return ZOFTEMAR_BOUND. Bundles and their legs last until the room is closed.
+ * changes to the chosen leg at that leg's next key frame. Leg 1 is the first one listed. Only its bundle takes from a leg: for a leg, zoftemar_take,
+ * zoftemar_leave and the work of a session return ZOFTEMAR_BOUND. Bundles and their legs last until the room is closed.
  *
  *     const uint32_t legs[2] = { 1, 2 };                                           // subscribers of a publisher's two layered tracks, id 4
  *     zoftemar_bundle_renumbered(&room, 1, 4, 0x55555555, 10, legs, 2);            // bundle 1, its SSRC, first sequence number
@@ -401,7 +401,7 @@ ZOFTEMAR_USE ZOFTEMAR_NONNULL(1) zoftemar_reply zoftemar_redraw(zoftemar_room *r
 
 /* ---- Recording: the packets of a subscriber as a file
  *
- * A recorder makes an IVF file, as `sfu record` does, of the packets that a subscriber of a layered track takes, from its first take on. dav1d and
+ * A recorder makes an IVF file, as `sfu record` does, from the packets that a subscriber of a layered track takes, from its first take on. dav1d and
  * ffmpeg play it. The file stays in memory until the recorder is closed, since its header has the number of units.
  *
  *     zoftemar_recorder recorder = ZOFTEMAR_RECORDER_NONE;
@@ -427,11 +427,11 @@ ZOFTEMAR_USE ZOFTEMAR_NONNULL(1) uint32_t zoftemar_recorder_open(zoftemar_record
 
 /* Records the next packet. A code from ZOFTEMAR_UNREAD to ZOFTEMAR_NOT_OBU: a strict receiver finds this fault; the file has the frames before it,
  * and no more. ZOFTEMAR_NO_MEMORY, ZOFTEMAR_TOO_LONG, ZOFTEMAR_NO_RECORDER, ZOFTEMAR_FINISHED: nothing changes, and after ZOFTEMAR_NO_MEMORY the
- * packet may be passed again. Packets that one subscriber takes have no fault but possibly ZOFTEMAR_NOT_OBU. */
+ * packet may be passed again. Packets that one subscriber takes have no fault except possibly ZOFTEMAR_NOT_OBU. */
 ZOFTEMAR_NONNULL(1) zoftemar_reply zoftemar_recorder_feed(zoftemar_recorder *recorder, const uint8_t *bytes, size_t count);
 
 /* Finishes the recorder, and copies the next bytes of its file to `out`, `count` or all that are left: ZOFTEMAR_FILE_PIECE. ZOFTEMAR_DONE: the file
- * ended with the bytes before. The first reply tells the size of the file, `first` plus `second`. ZOFTEMAR_NO_SPACE (`count` is 0): nothing
+ * ended with the bytes before. The first reply has the size of the file: `first` plus `second`. ZOFTEMAR_NO_SPACE (`count` is 0): nothing
  * changes. It needs no memory. */
 ZOFTEMAR_USE ZOFTEMAR_NONNULL(1) zoftemar_reply zoftemar_recorder_finish(zoftemar_recorder *recorder, uint8_t *out, size_t count);
 

@@ -1,4 +1,4 @@
-// zoftemar.hpp: zoftemar.h as move-only classes, for C++17. An object owns at most one room, session or recorder, and its destructor closes that. An
+// zoftemar.hpp: zoftemar.h as move-only classes, for C++17. An object owns at most one room, session or recorder, and its destructor closes it. An
 // object that isn't open, or was moved from, owns none: its calls return ZOFTEMAR_NO_ROOM, ZOFTEMAR_NO_SESSION or ZOFTEMAR_NO_RECORDER. Each method
 // calls the function of its name in zoftemar.h, with seat 0; zoftemar.h has the codes, the units and what the caller owes. Nothing throws, and the
 // classes allocate and copy nothing.

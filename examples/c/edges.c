@@ -191,7 +191,7 @@ static const uint8_t next[23] = { 0x90, 0xe0, 0, 0, 0, 0, 0, 0, 0x22, 0x22, 0x22
 
 static uint32_t record(zoftemar_recorder *recorder, const uint8_t *bytes, size_t count) { return zoftemar_recorder_feed(recorder, bytes, count).code; }
 
-/* The fault of the second frame if its byte at `at` is `value`, as two calls say; the file has the frame before. */
+/* Two calls return the fault of the second frame when its byte at `at` is `value`; the file has the frame before it. */
 static zoftemar_reply fault_of(size_t at, uint8_t value) {
     zoftemar_recorder recorder = ZOFTEMAR_RECORDER_NONE;
     uint8_t other[sizeof next];

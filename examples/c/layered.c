@@ -54,7 +54,7 @@ int main(void) {
     say(zoftemar_why(&room, 0, 2, 1), NULL);
     target(1);
     target(2);
-    say(zoftemar_aim(&room, 0, 2, 1, 1), NULL); /* above what it is sent, so it requests a key frame */
+    say(zoftemar_aim(&room, 0, 2, 1, 1), NULL); /* above the layers that it is sent, so it requests a key frame */
     target(2);
     if (!zoftemar_reaches_wish(&room, 2).has) say(zoftemar_plead(&room, 0, 2), NULL);
     say(zoftemar_key_wanted(&room, 0, 1), NULL);

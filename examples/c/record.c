@@ -1,5 +1,5 @@
-/* record.c: records the packets on standard input, one a line in hexadecimal, with the library. It prints what `./sfu record 4` prints and exits as that
- * does, so that the two can be compared: the file, or the first fault. The lines must be ones that `./sfu record` accepts. */
+/* record.c: records the packets on standard input, one a line in hexadecimal, with the library. It prints what `./sfu record 4` prints (the file or the
+ * first fault) and exits with the same status, so that the two can be compared. The lines must be ones that `./sfu record` accepts. */
 #include <stdio.h>
 #include <string.h>
 #include "zoftemar.h"

@@ -1,5 +1,5 @@
 /* simulcast.c: relays a publisher's simulcast over UDP, to each receiver as one stream. The publisher sends two or three sizes of one scene to PORT, the
- * smallest first: layered tracks with an SSRC each, whose bitrates are known. A receiver is sent the largest size that fits into what it says by REMB, and
+ * smallest first: layered tracks with an SSRC each, whose bitrates are known. A receiver is sent the largest size that fits into the bandwidth of its REMB, and
  * sends RTCP from the port at which it receives. ID is the descriptors' header extension.
  * usage: simulcast PORT ID SSRC/KBPS,SSRC/KBPS[,SSRC/KBPS] ADDRESS:PORT.. */
 #include <string.h>
@@ -49,8 +49,8 @@ static void send_again(uint32_t receiver, uint16_t number) {
     if (reply.code == ZOFTEMAR_PACKET) send_to(receiver, out, reply.first);
 }
 
-/* Hears a receiver's compound RTCP packet: generic NACKs and PLIs (RFC 4585, section 6), and REMB. A PLI asks for a key frame of the chosen size, which
- * mends the picture even while another size is active. */
+/* Reads a receiver's compound RTCP packet: generic NACKs and PLIs (RFC 4585, section 6), and REMB. A PLI asks for a key frame of the chosen size, which
+ * repairs the picture even while another size is active. */
 static void hear(uint32_t receiver, const uint8_t *bytes, size_t length) {
     for (size_t size; length >= 4 && (size = 4 * (1 + ((size_t)bytes[2] << 8 | bytes[3]))) <= length; bytes += size, length -= size) {
         bool is_ours = size >= 12 && word(bytes + 8) == media_of(receiver);
@@ -105,7 +105,7 @@ int main(int argc, char **argv) {
         receivers[count].address = (struct sockaddr_in){ .sin_family = AF_INET, .sin_port = htons(to), .sin_addr.s_addr = inet_addr(address) };
         receivers[count].chosen = 1, receivers[count].fits = now();
         const uint32_t legs[] = { leg_of(count, 1), leg_of(count, 2), leg_of(count, 3) };
-        for (uint32_t leg = 0; leg < sizes; leg++) /* a leg's SSRC and sequence numbers go nowhere */
+        for (uint32_t leg = 0; leg < sizes; leg++) /* a leg's SSRC and sequence numbers are never sent */
             if (zoftemar_join(&room, 0, legs[leg], leg + 1, 0, 0, 3, 7).code != ZOFTEMAR_DONE) return 2;
         if (zoftemar_bundle_renumbered(&room, count, id, media_of(count), 0, legs, sizes).code != ZOFTEMAR_DONE) return 2;
     }
