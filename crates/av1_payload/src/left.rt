@@ -12,7 +12,7 @@ use crate::leb::split_length;
 pub(crate) enum Layout {
     /// Each element is preceded by its length.
     EachSized,
-    /// This number of elements are preceded by their lengths. Then the last element follows, without a length.
+    /// First come this number of elements, each preceded by its length. Then the last element follows, without a length.
     LastBare(u8),
 }
 
@@ -33,8 +33,8 @@ pub(crate) fn layout_behind(header: u8) -> Layout
     }
 }
 
-/// Returns the first remaining element and the elements after it, or `None` if no element remains. Returns `Leb` or `Length` if the length of the
-/// first element has a fault.
+/// Returns the first remaining element and the elements after it. Returns `None` if no element remains. Returns `Leb` if the first element's length can't be
+/// read. Returns `Length` if this length is greater than the number of bytes after the length field.
 pub(crate) fn first_element<'a>(
     left: Left<'a>,
 ) -> Result<Option<(&'a [u8], Left<'a>)>, PayloadFault>
@@ -67,7 +67,8 @@ pub(crate) fn first_element<'a>(
     }
 }
 
-/// Reads a length and the element of that length after it. Returns the element, and the bytes after it. Returns `Leb` or `Length` if the length has a fault.
+/// Reads a length, and then an element of this length. Returns the element and the bytes after the element. Returns `Leb` if the length can't be read. Returns
+/// `Length` if the length is greater than the number of bytes after the length field.
 fn split_sized<'a>(bytes: &'a [u8]) -> Result<(&'a [u8], &'a [u8]), PayloadFault>
     ensures { MatchResult result (λ x. sized_at bytes.now ≡ Ok (x.0.now, x.1.now)) (λ e. sized_at bytes.now ≡ Err e) }
 {

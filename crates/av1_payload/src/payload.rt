@@ -17,15 +17,15 @@ pub struct Payload<'a> {
     pub continues: bool,
     /// Y: the last element continues in the next packet.
     pub carries: bool,
-    /// N: the packet is the first of a coded video sequence. Nothing checks this (own rule).
+    /// N: the packet is the first of a coded video sequence. The bit is read but not checked (own rule).
     pub new_sequence: bool,
     left: Left<'a>,
 }
 
-/// Reads a payload (RTP Payload Format For AV1, section 4.4). Reserved bits are ignored, and an element may be empty (own rule). The error is
-/// the first fault from left to right. `Empty`: there are no bytes. `NoElement`: W is 0, and nothing follows the aggregation header. `Leb`: the
-/// bytes end before or within a required length, or a length has more than 8 bytes or is 2^32 or more. `Length`: a length is more than the
-/// number of bytes after it.
+/// Reads a payload (RTP Payload Format For AV1, section 4.4). Reserved bits are ignored, and an element may be empty (own rule). The bytes are read from left
+/// to right, and the error is the first fault. `Empty`: there are no bytes. `NoElement`: W is 0, and nothing follows the aggregation header. `Leb`: the bytes
+/// end before or within a required length, a length is encoded in more than 8 bytes, or its value is 2^32 or more. `Length`: a length is greater than the
+/// number of bytes after the length field.
 #[inline(always)]
 pub fn read<'a>(bytes: &'a [u8]) -> Result<Payload<'a>, PayloadFault>
     ensures flags { IfOk result (λ p. flags_in p ≡ flags_of bytes.now) }
@@ -73,7 +73,7 @@ impl<'a> Payload<'a> {
     ghost use Rattle.std.specs.Prelude.{◌≡◌};
     ghost use Rattle.av1_payload.specs.Seen.{elements_within};
 
-    /// The elements in order, borrowed from the bytes that were read.
+    /// Returns the elements in order. They are borrowed from the bytes that were read.
     pub fn elements(&self) -> PayloadElements<'a>
         ensures { result ≡ elements_within self.now }
     {

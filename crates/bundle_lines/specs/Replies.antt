@@ -1,4 +1,4 @@
--- The texts of replies that only lines about bundles have, without their line end. Own rule.
+-- The texts of replies that occur only in scripts with bundles, without their line end. Own rule.
 use Rattle.std.specs.Prelude.{ℕ, List, ◌++◌, codes, decimal}
 use Rattle.bundle_lines.specs.declared.replies.BundleReply.{BundleReply}
 use Rattle.bundle_lines.specs.declared.replies.BundleReply.TheVariants.{Pumped, NoBundle, NoLeg, WrongKind, Bound}

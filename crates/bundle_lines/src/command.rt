@@ -12,7 +12,7 @@ pub enum BundleCommand {
     Redraw,
 }
 
-/// Returns the command with this name, or `None` if there is none.
+/// Returns the command with this name, or `None` if no command has this name.
 pub fn bundle_command(word: &[u8]) -> Option<BundleCommand>
     ensures { result ≡ command_of word.now }
 {

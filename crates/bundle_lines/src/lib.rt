@@ -1,5 +1,5 @@
-//! The lines of scripts with bundles, and the replies that only lines about bundles have. A bundle makes one outgoing stream from the
-//! packets of two or three subscribers.
+//! The lines of scripts with bundles, and the replies that occur only in these scripts. A bundle merges the packets of two or three subscribers into one
+//! outgoing stream.
 #![tactic(auto)]
 
 mod command;

@@ -113,8 +113,8 @@ fn said(line: &[u8]) -> Result<BundleLine, NoLine>
     }
 }
 
-/// Reads a line, without its line end. Returns `NoLine` exactly when the line has no meaning:
-/// it is neither the line of a call nor a command about a bundle. Allocates no memory.
+/// Reads a line. `line` doesn't include the line end. Returns `NoLine` if and only if the line has no meaning: the line is neither a call on the room nor a
+/// command about a bundle. Allocates no memory.
 pub fn read_bundle_line(line: &[u8]) -> Result<BundleLine, NoLine>
     ensures value { result_ok result ≡ line_of line.now }
     ensures ok { IfOk result (λ said. IsBundleLine said line.now) }

@@ -1,4 +1,4 @@
-// The replies that only lines about bundles have.
+// The replies that occur only in scripts with bundles.
 ghost use Rattle.std.specs.Prelude.{◌≡◌, ◌++◌, ◌∷◌, [], OnErr, OnOk, decimal};
 ghost use Rattle.script_texts.specs.Texts.{GoesOn};
 ghost use Rattle.bundle_lines.specs.Replies.{bundle_reply_text};
@@ -7,18 +7,19 @@ use itoa::Buffer;
 use script_texts::end_line;
 use sfu_base::{Blob, NoMemory};
 
-/// A reply that only a line about bundles can have. Own rule.
+/// A reply that occurs only in scripts with bundles. Own rule.
 #[derive(Clone, Copy, Debug, PartialEq, Eq)]
 pub enum BundleReply {
     /// The pump took packets: `forwarded` of them were forwarded, and `dropped` were dropped.
     Pumped { forwarded: u32, dropped: u32 },
     /// There is no bundle with this number.
     NoBundle,
-    /// The line names a leg that the bundle doesn't have: its legs are 1 to `legs`.
+    /// The bundle doesn't have the leg that the line names. The bundle's legs are numbered 1 to `legs`.
     NoLeg { legs: u8 },
-    /// The track of a leg isn't layered, or has another header extension id than the line.
+    /// A leg's track isn't layered, or the track's header extension id differs from the id in the line.
     WrongKind,
-    /// A subscriber that the line names is a leg of bundle number `bundle`.
+    /// A subscriber that the line names is already a leg of bundle `bundle`. Or `bundle` is the new bundle, and the line lists the same subscriber twice as a
+    /// leg.
     Bound { bundle: u32 },
 }
 
@@ -47,7 +48,7 @@ fn append_bundle_reply(reply: BundleReply, out: &mut Blob) -> Result<(), NoMemor
     }
 }
 
-/// Appends the line of a reply to `ready`. On `NoMemory`, `ready` is unchanged.
+/// Appends a reply to `ready` as a line with its line end. On `NoMemory`, `ready` is unchanged.
 pub fn add_bundle_reply(reply: BundleReply, ready: &mut Blob) -> Result<(), NoMemory>
     ensures ok { OnOk result (ready.new ≡ ready.old ++ (bundle_reply_text reply ++ 10 ∷ [])) }
     ensures err { OnErr result (ready.new ≡ ready.old) }

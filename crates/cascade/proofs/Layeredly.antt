@@ -35,15 +35,15 @@ use Rattle.room_core.specs.Formats.{format_of}
 use Rattle.room_core.specs.Given.{given_to}
 use Rattle.room_core.specs.History.{Entry as Served, accepted}
 use Rattle.room_core.specs.Live.{Joined, Published, joined, kind_of}
-use Rattle.room_core.specs.Sent.{layered_sent, opens, remasked_first, sent, tells_first}
+use Rattle.room_core.specs.Sent.{layered_sent, opens, remasked_first, sent, carries_mask_first}
 use Rattle.target_selector.specs.Masks.{mask_for}
 use Rattle.room_core.specs.SentBytes.{AreInOrder, going_out, outgoing_bytes}
 use Rattle.room_core.specs.TrackHistory.{entries_of}
 use Rattle.room_core.specs.Views.{subscriber_by, timeline_as}
 use Rattle.room_core.proofs.Giving.{accepted_are}
-use Rattle.room_core.proofs.SentMarked.{with_told}
+use Rattle.room_core.proofs.SentMarked.{with_remasked}
 use Rattle.room_core.proofs.Stepping.{format_is}
-use Rattle.cascade_laws.specs.Told.{arrivals}
+use Rattle.cascade_laws.specs.Described.{arrivals}
 use Rattle.cascade.specs.Cascades.{AreOfRooms, IsMasked, IsPassedOnOf}
 use Rattle.cascade.specs.Fed.{IsFed}
 use Rattle.cascade.proofs.JoinedAt.{kind_is}
@@ -90,8 +90,8 @@ module _ (took : List (List ℕ)) where
     few : length masked ≤ 276 + 4 * length bytes
     reads : first_fault masked ≡ None
 
-  told_carries : (id mask : ℕ) (force : Option TemplateStructure) (p : Packet) → CameAs p → Carries id (remasked_packet id force mask p)
-  told_carries id mask force p c = record {
+  described_carries : (id mask : ℕ) (force : Option TemplateStructure) (p : Packet) → CameAs p → Carries id (remasked_packet id force mask p)
+  described_carries id mask force p c = record {
     bytes = c.bytes;
     member = c.member;
     masked = remasked_bytes id force mask c.bytes;
@@ -114,13 +114,13 @@ module _ (took : List (List ℕ)) where
   all_carry id [] all = tt
   all_carry id (p ∷ ps) all = (came_carries id p all.0, all_carry id ps all.1)
 
-  with_told_carries : (id : ℕ) (frame : Frame TemplateStructure) (tells : Bool) (mask : ℕ) → AllByRecursion CameAs frame.packets → AllByRecursion (Carries id) (with_told id frame tells mask).packets
-  with_told_carries id frame false mask all = all_carry id frame.packets all
-  with_told_carries id frame true mask all = go frame.packets all
+  with_remasked_carries : (id : ℕ) (frame : Frame TemplateStructure) (carries_mask : Bool) (mask : ℕ) → AllByRecursion CameAs frame.packets → AllByRecursion (Carries id) (with_remasked id frame carries_mask mask).packets
+  with_remasked_carries id frame false mask all = all_carry id frame.packets all
+  with_remasked_carries id frame true mask all = go frame.packets all
     where
       go : (ps : List Packet) → AllByRecursion CameAs ps → AllByRecursion (Carries id) (remasked_first id (Some frame.structure) mask ps)
       go [] all = tt
-      go (p ∷ ps) all = (told_carries id mask (Some frame.structure) p all.0, all_carry id ps all.1)
+      go (p ∷ ps) all = (described_carries id mask (Some frame.structure) p all.0, all_carry id ps all.1)
 
   other_marker : (id : ℕ) (p : Packet) (marker : Bool) → Carries id p → Carries id (record p { marker = marker })
   other_marker id p marker c = record { bytes = c.bytes; member = c.member; masked = c.masked; is_masked = c.is_masked; few = c.few; long = c.long; rest_is = c.rest_is }
@@ -133,9 +133,9 @@ module _ (took : List (List ℕ)) where
   sent_carries : (id : ℕ) (frame : Frame TemplateStructure) (target : CurrentTarget) → AllByRecursion CameAs frame.packets → AllByRecursion (Carries id) (sent (Layered id) frame target)
   unfolding layered_sent
   sent_carries id frame target all =
-      let tells = opens frame.meaning target || tells_first id frame.packets in
+      let carries_mask = opens frame.meaning target || carries_mask_first id frame.packets in
       let mask = mask_for frame.meaning (open_target target) in
-      marked_carries id (is_top_layer frame.meaning target) (with_told id frame tells mask).packets (with_told_carries id frame tells mask all)
+      marked_carries id (is_top_layer frame.meaning target) (with_remasked id frame carries_mask mask).packets (with_remasked_carries id frame carries_mask mask all)
 
   -- ---- forwarded packets
 

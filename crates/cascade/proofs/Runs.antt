@@ -35,13 +35,13 @@ use Rattle.room_core.proofs.Giving.{accepted_are}
 use Rattle.room_core.proofs.Stepping.{formats_read}
 use Rattle.cascade_laws.specs.Relayed.{AreHandedOn, IsMaskedFor, Shift, passed_since}
 use Rattle.cascade_laws.specs.Laws.{PassesOn}
-use Rattle.cascade_laws.specs.Told.{arrivals}
+use Rattle.cascade_laws.specs.Described.{arrivals}
 use Rattle.cascade_laws.specs.Handing.{HasComeFor, HaveComeFor, sent_since}
 use Rattle.cascade_laws.proofs.HandedOn.{handed_on_frames_pass, track_of}
 use Rattle.cascade_laws.proofs.Handing.{all_come, arrivals-append, from_key, key_comes, numbered_sent}
 use Rattle.cascade_laws.proofs.Staying.{left_targets_stay}
 use Rattle.cascade_laws.proofs.Splitting.{IsBehind, IsSplitAt, behind_frames, forwarded_since, frames_of-append, layered_behind, layered_front, split_at}
-use Rattle.cascade.specs.Cascades.{AreOfRooms, HasWishAndRoom, IsRun, JoinedBefore, PassesAgain, RunsOn}
+use Rattle.cascade.specs.Cascades.{AreOfRooms, HasWishAndCapacity, IsRun, JoinedBefore, PassesAgain, RunsOn}
 use Rattle.cascade.specs.Fed.{IsFed, before_join, packets_on}
 use Rattle.cascade.proofs.JoinedAt.{HasJoinedAt, has_joined_at, kind_is}
 use Rattle.cascade.proofs.Known.{IsKnown, SendsRun, frames_known, sends_run}
@@ -354,7 +354,7 @@ module _ (h1 h2 : List Served) (s t u id : ℕ) (i j : Joined) (p : Published) (
   masked : IsMaskedFor target k.meaning again.meaning
   masked = sends.first.masked again.meaning key_came.1.masked
 
-  pass : HasWishAndRoom j.wish now split.since split.past again → PassesAgain i.wish j.wish now since past split.since split.past k again target by
+  pass : HasWishAndCapacity j.wish now split.since split.past again → PassesAgain i.wish j.wish now since past split.since split.past k again target by
   pass h =
       let r : PassesOn by target now i.wish since past k j.wish split.since split.past again = handed_on_frames_pass by target now i.wish since past k j.wish split.since split.past again (record {
         track = track1;
@@ -369,8 +369,8 @@ module _ (h1 h2 : List Served) (s t u id : ℕ) (i j : Joined) (p : Published) (
         first = key_came.1.relayed;
         first_masked = masked;
         others = others_again;
-        first_has_room = h.first_has_room;
-        others_have_room = h.others_have_room;
+        first_has_capacity = h.first_has_capacity;
+        others_have_capacity = h.others_have_capacity;
       }) in
       record { first = r.first; others = r.others; alike = r.alike }
 

@@ -19,15 +19,15 @@ use Rattle.forwarding_laws.proofs.Receiving.{not_key}
 use Rattle.dd_structure.specs.TemplateStructure.{TemplateStructure}
 use Rattle.packet_format.specs.Formats.{format_of as the_format}
 use Rattle.packet_format.specs.Remasked.{or_same, remasked, remasked_bytes}
-use Rattle.packet_format.specs.RemaskedReads.{telling}
+use Rattle.packet_format.specs.RemaskedReads.{remasked_as}
 use Rattle.packet_format.proofs.Remasked.{first_shows}
 use Rattle.room_core.specs.Formats.{format_of}
-use Rattle.room_core.specs.Sent.{layered_sent, opens, remasked_first, sent, tells_first}
+use Rattle.room_core.specs.Sent.{layered_sent, opens, remasked_first, sent, carries_mask_first}
 use Rattle.target_selector.specs.Masks.{mask_for}
 use Rattle.target_selector.proofs.TargetBits.{mask_small}
 use Rattle.room_core.proofs.Senders.{sent_keeps_whole}
 use Rattle.room_core.proofs.Stepping.{format_is, formats_read}
-use Rattle.cascade_laws.specs.Told.{FirstMask, FirstTells, HaveMasks, IsTold, IsToldBy, KeepsMask}
+use Rattle.cascade_laws.specs.Described.{FirstMask, FirstDescribes, HaveMasks, IsDescribed, IsDescribedBy, KeepsMask}
 use Rattle.cascade_laws.specs.Unmasked.{IsUnmasked, SaysNoMask}
 use Rattle.cascade_laws.specs.Handing.{IsSentOn}
 use Rattle.cascade.proofs.MaskBits.{HasBit, IsMaskOf, all_active, all_mask, mask_has}
@@ -38,7 +38,7 @@ pub record IsFrameOfRun (format : Format TemplateStructure) (s : TemplateStructu
   pub valid : IsValid frame.meaning
   pub read : IsReadFrame format frame
   pub whole : IsWholeFrame format frame
-  pub told : IsTold format frame
+  pub described : IsDescribed format frame
   pub unmasked : IsUnmasked format frame
   pub below : target < frame.meaning.target_count
   pub active : is_active frame.meaning target ≡ true
@@ -114,19 +114,19 @@ module _ (id : ℕ) (s : TemplateStructure) (f : FrameMeaning) (facts : IsFormat
           leaves_mask e old (none e others reads) (same_structure rest e others reads no_key) masked
 
   -- and with another mask
-  first_told : (rest new : List ℕ) (mask : ℕ) (d : Descriptor TemplateStructure) (joins : Joins) → IsFirst reader s f rest d joins → mask < 2 ^ f.target_count
-      → remasked id (Some s) mask rest ≡ Some new → IsToldBy f d → Masks mask
-      → ((e : Descriptor TemplateStructure) (others : Joins) → ReadsAs reader (Some s) new e others → IsToldBy f e) × FirstMask reader s Masks f.key new
-  first_told rest new mask d joins first small is told masked = (
+  first_described : (rest new : List ℕ) (mask : ℕ) (d : Descriptor TemplateStructure) (joins : Joins) → IsFirst reader s f rest d joins → mask < 2 ^ f.target_count
+      → remasked id (Some s) mask rest ≡ Some new → IsDescribedBy f d → Masks mask
+      → ((e : Descriptor TemplateStructure) (others : Joins) → ReadsAs reader (Some s) new e others → IsDescribedBy f e) × FirstMask reader s Masks f.key new
+  first_described rest new mask d joins first small is described masked = (
     λ e others reads.
         let same = shows e others reads in
-        subst (IsToldBy f) same (record { spatial = told.spatial; temporal = told.temporal; dtis = told.dtis; links = told.links; ref_count = told.ref_count; refs = told.refs }),
+        subst (IsDescribedBy f) same (record { spatial = described.spatial; temporal = described.temporal; dtis = described.dtis; links = described.links; ref_count = described.ref_count; refs = described.refs }),
     go f.key,
   )
     where
-      shows : (e : Descriptor TemplateStructure) (others : Joins) → ReadsAs reader (Some s) new e others → telling mask d ≡ e
+      shows : (e : Descriptor TemplateStructure) (others : Joins) → ReadsAs reader (Some s) new e others → remasked_as mask d ≡ e
       shows e others reads =
-          same_shown (telling mask d) e (Elements joins) (Elements others)
+          same_shown (remasked_as mask d) e (Elements joins) (Elements others)
           (sym (first_shows id mask s f.key rest d (Elements joins) read.carried (subst (λ (n : ℕ). mask < 2 ^ n) read.targets small) first.key first.structure new is first.reads (Some s) (inr refl)) ∙ reads)
 
       says : (e : Descriptor TemplateStructure) (others : Joins) → ReadsAs reader (Some s) new e others → (old : ℕ) → Masks (mask_by reader e.mask e.structure old)
@@ -137,29 +137,29 @@ module _ (id : ℕ) (s : TemplateStructure) (f : FrameMeaning) (facts : IsFormat
       go false = λ e others reads old kept. says e others reads old
 
   -- the packets of the frame, whose first may have another mask
-  as_told : (p : Packet) (ps : List Packet) (mask : ℕ) → mask < 2 ^ f.target_count → Masks mask → AreWhole reader s f (map rest_of (p ∷ ps)) → FirstTells reader s f (map rest_of (p ∷ ps))
+  as_described : (p : Packet) (ps : List Packet) (mask : ℕ) → mask < 2 ^ f.target_count → Masks mask → AreWhole reader s f (map rest_of (p ∷ ps)) → FirstDescribes reader s f (map rest_of (p ∷ ps))
       → AllByRecursion (SaysNoMask reader s) (map rest_of (p ∷ ps))
-      → FirstTells reader s f (remasked_bytes id (Some s) mask p.rest ∷ map rest_of ps) × HaveMasks reader s Masks f.key (remasked_bytes id (Some s) mask p.rest ∷ map rest_of ps)
-  as_told p ps mask small masked whole told none = go (remasked id (Some s) mask p.rest) refl
+      → FirstDescribes reader s f (remasked_bytes id (Some s) mask p.rest ∷ map rest_of ps) × HaveMasks reader s Masks f.key (remasked_bytes id (Some s) mask p.rest ∷ map rest_of ps)
+  as_described p ps mask small masked whole described none = go (remasked id (Some s) mask p.rest) refl
     where
       tail : AllByRecursion (KeepsMask reader s Masks) (map rest_of ps)
       tail = tail_keeps whole.0 whole.1 (map rest_of ps) whole.3 none.1
 
-      go : (o : Option (List ℕ)) → remasked id (Some s) mask p.rest ≡ o → FirstTells reader s f (or_same o p.rest ∷ map rest_of ps) × HaveMasks reader s Masks f.key (or_same o p.rest ∷ map rest_of ps)
-      go None is = (told, (first_mask p.rest whole.0 whole.1 whole.2 none.0, tail))
+      go : (o : Option (List ℕ)) → remasked id (Some s) mask p.rest ≡ o → FirstDescribes reader s f (or_same o p.rest ∷ map rest_of ps) × HaveMasks reader s Masks f.key (or_same o p.rest ∷ map rest_of ps)
+      go None is = (described, (first_mask p.rest whole.0 whole.1 whole.2 none.0, tail))
       go (Some new) is =
-          let first = first_told p.rest new mask whole.0 whole.1 whole.2 small is (told whole.0 whole.1 (whole.2.reads (Some s) (inr refl))) masked in
+          let first = first_described p.rest new mask whole.0 whole.1 whole.2 small is (described whole.0 whole.1 (whole.2.reads (Some s) (inr refl))) masked in
           (first.0, (first.1, tail))
 
   as_it_was : (p : Packet) (ps : List Packet) → AreWhole reader s f (map rest_of (p ∷ ps)) → AllByRecursion (SaysNoMask reader s) (map rest_of (p ∷ ps)) → HaveMasks reader s Masks f.key (map rest_of (p ∷ ps))
   as_it_was p ps whole none = (first_mask p.rest whole.0 whole.1 whole.2 none.0, tail_keeps whole.0 whole.1 (map rest_of ps) whole.3 none.1)
 
-  either_way : (tells : Bool) (ps : List Packet) (mask : ℕ) → mask < 2 ^ f.target_count → Masks mask → AreWhole reader s f (map rest_of ps) → FirstTells reader s f (map rest_of ps)
+  either_way : (carries_mask : Bool) (ps : List Packet) (mask : ℕ) → mask < 2 ^ f.target_count → Masks mask → AreWhole reader s f (map rest_of ps) → FirstDescribes reader s f (map rest_of ps)
       → AllByRecursion (SaysNoMask reader s) (map rest_of ps)
-      → FirstTells reader s f (map rest_of (cond tells (remasked_first id (Some s) mask ps) ps)) × HaveMasks reader s Masks f.key (map rest_of (cond tells (remasked_first id (Some s) mask ps) ps))
-  either_way tells [] mask small masked whole told none = absurd whole
-  either_way true (p ∷ ps) mask small masked whole told none = as_told p ps mask small masked whole told none
-  either_way false (p ∷ ps) mask small masked whole told none = (told, as_it_was p ps whole none)
+      → FirstDescribes reader s f (map rest_of (cond carries_mask (remasked_first id (Some s) mask ps) ps)) × HaveMasks reader s Masks f.key (map rest_of (cond carries_mask (remasked_first id (Some s) mask ps) ps))
+  either_way carries_mask [] mask small masked whole described none = absurd whole
+  either_way true (p ∷ ps) mask small masked whole described none = as_described p ps mask small masked whole described none
+  either_way false (p ∷ ps) mask small masked whole described none = (described, as_it_was p ps whole none)
 
 -- ---- the sent packets
 
@@ -186,8 +186,8 @@ sends_on id s target opened most frame facts h whole = subst (λ (x : TemplateSt
     f : FrameMeaning
     f = frame.meaning
 
-    tells : Bool
-    tells = opens f (Open target opened) || tells_first id frame.packets
+    carries_mask : Bool
+    carries_mask = opens f (Open target opened) || carries_mask_first id frame.packets
 
     mask : ℕ
     mask = mask_for f (Some target)
@@ -201,21 +201,21 @@ sends_on id s target opened most frame facts h whole = subst (λ (x : TemplateSt
     has : IsMaskOf (format.layout frame.structure).target_count target mask
     has = subst (λ (n : ℕ). IsMaskOf n target mask) h.read.targets (mask_has f target most h.below h.active h.layers_are)
 
-    both : FirstTells format frame.structure f (map rest_of (cond tells (remasked_first id (Some frame.structure) mask frame.packets) frame.packets))
-        × HaveMasks format frame.structure (MasksOf format frame.structure target) f.key (map rest_of (cond tells (remasked_first id (Some frame.structure) mask frame.packets) frame.packets))
+    both : FirstDescribes format frame.structure f (map rest_of (cond carries_mask (remasked_first id (Some frame.structure) mask frame.packets) frame.packets))
+        × HaveMasks format frame.structure (MasksOf format frame.structure target) f.key (map rest_of (cond carries_mask (remasked_first id (Some frame.structure) mask frame.packets) frame.packets))
     both =
-        either_way id frame.structure f facts h.read (MasksOf format frame.structure target) (all_mask (format.layout frame.structure) target below) tells frame.packets mask
-        (mask_small f (Some target)) has h.whole h.told h.unmasked.none
+        either_way id frame.structure f facts h.read (MasksOf format frame.structure target) (all_mask (format.layout frame.structure) target below) carries_mask frame.packets mask
+        (mask_small f (Some target)) has h.whole h.described h.unmasked.none
 
-    rests : map rest_of (sent (Layered id) frame (Open target opened)) ≡ map rest_of (cond tells (remasked_first id (Some frame.structure) mask frame.packets) frame.packets)
-    rests = rests_marked is_last (cond tells (remasked_first id (Some frame.structure) mask frame.packets) frame.packets)
+    rests : map rest_of (sent (Layered id) frame (Open target opened)) ≡ map rest_of (cond carries_mask (remasked_first id (Some frame.structure) mask frame.packets) frame.packets)
+    rests = rests_marked is_last (cond carries_mask (remasked_first id (Some frame.structure) mask frame.packets) frame.packets)
 
     here : IsSentOn format (MasksOf format frame.structure target) target frame.structure frame (sent (Layered id) frame (Open target opened))
     here = record {
       sent = record {
         read = h.read;
         whole = whole;
-        told = subst (FirstTells format frame.structure f) (sym rests) both.0;
+        described = subst (FirstDescribes format frame.structure f) (sym rests) both.0;
         masks = subst (HaveMasks format frame.structure (MasksOf format frame.structure target) f.key) (sym rests) both.1;
       };
       masked = λ g m. record {

@@ -20,7 +20,7 @@ use Rattle.room_core.specs.Replies.{answer}
 use Rattle.room_core.specs.Serves.{Serves, Stands}
 use Rattle.cascade.specs.Calls.{Both, all_fed, all_taken, and_call, fed_on, if_done, if_sent, taken_on}
 use Rattle.cascade.specs.Feeding.{AreMoved, EndsAtPacket, EndsAtTake, Feeds, IsFeed, packet_entry, packets_of, take_entry, takes_of}
-use Rattle.cascade.specs.Standing.{StandsAfter, TakesNext, TakesNone, WasFed, untold}
+use Rattle.cascade.specs.Standing.{StandsAfter, TakesNext, TakesNone, WasFed, unrecorded}
 use Rattle.cascade.specs.declared.feeding.Fed.{Fed}
 use Rattle.cascade.specs.declared.endpoint.Endpoint.{Endpoint}
 use Rattle.cascade.proofs.Keeping.{one_brought, refused_take}
@@ -37,7 +37,7 @@ not_starved true c free cause = by_cause (cause refl)
     by_cause (inr refuses) = sym refuses
 
 pub stands_after : (old new : Room KeepNone) (c : Call) (r : Reply) (bytes numbers : List ℕ) (past : List Call)
-    → Serves untold old new 0 c r bytes numbers → is_starved r ≡ false → StandsAfter old past → StandsAfter new (and_call past c)
+    → Serves unrecorded old new 0 c r bytes numbers → is_starved r ≡ false → StandsAfter old past → StandsAfter new (and_call past c)
 stands_after old new c r bytes numbers past serves fed s =
     let entry : Entry = record { seat = 0; call = c; starved = is_starved r } in
     record {
@@ -50,13 +50,13 @@ stands_after old new c r bytes numbers past serves fed s =
     }
 
 answered_after : (old new : Room KeepNone) (c : Call) (r : Reply) (bytes numbers : List ℕ) (past : List Call)
-    → Serves untold old new 0 c r bytes numbers → is_starved r ≡ false → StandsAfter old past → answer_of r bytes numbers ≡ answer past c
+    → Serves unrecorded old new 0 c r bytes numbers → is_starved r ≡ false → StandsAfter old past → answer_of r bytes numbers ≡ answer past c
 answered_after old new c r bytes numbers past serves fed s = serves.answered s.history s.stands fed ∙ ap (λ (calls : List Call). answer calls c) s.are
 
 -- ---- takes
 
 pub takes_next : (old new : Room KeepNone) (endpoint fed : Endpoint) (n : ℕ) (bytes numbers : List ℕ) (past : List Call)
-    → Serves untold old new 0 (call.Take n) reply.Packet bytes numbers → StandsAfter old past
+    → Serves unrecorded old new 0 (call.Take n) reply.Packet bytes numbers → StandsAfter old past
     → ((taken : List (List ℕ)) → WasFed endpoint taken → WasFed fed (taken ++ bytes ∷ [])) → TakesNext endpoint fed new n past
 takes_next old new endpoint fed n bytes numbers past serves s feeds =
     let said : answer past (call.Take n) ≡ Sent bytes = sym (answered_after old new (call.Take n) reply.Packet bytes numbers past serves refl s) in
@@ -73,7 +73,7 @@ refused_so (reply.Refused why) bytes numbers a other shape is = (why, sym is)
 refused_so r bytes numbers a other shape is = absurd (subst IsTakeAnswer (sym is) shape)
 
 pub takes_none : (old new : Room KeepNone) (endpoint : Endpoint) (n : ℕ) (r : Reply) (bytes numbers : List ℕ) (past : List Call)
-    → Serves untold old new 0 (call.Take n) r bytes numbers → is_starved r ≡ false → (r ≡ reply.Packet → ⊥) → StandsAfter old past → TakesNone endpoint endpoint new n past
+    → Serves unrecorded old new 0 (call.Take n) r bytes numbers → is_starved r ≡ false → (r ≡ reply.Packet → ⊥) → StandsAfter old past → TakesNone endpoint endpoint new n past
 takes_none old new endpoint n r bytes numbers past serves fed other s =
     let said = refused_so r bytes numbers (answer past (call.Take n)) other (take_shape past n) (answered_after old new (call.Take n) r bytes numbers past serves fed s) in
     record {
@@ -262,14 +262,14 @@ pub record AreFed (room1 room2 : Room KeepNone) (both : Both) : Type 0 where
   pub second : StandsAfter room2 both.second
 
 pub feeds_both : (old1 new1 old2 new2 : Room KeepNone) (s t m : ℕ) (fed : Fed) (both : Both) → (fed.end ≡ NoMemory → IsTrue false ⊎ IsTrue false)
-    → ((h1 h2 : List Entry) → Stands untold old1 h1 → Stands untold old2 h2 → Feeds untold untold new1 new2 s t m fed h1 h2)
+    → ((h1 h2 : List Entry) → Stands unrecorded old1 h1 → Stands unrecorded old2 h2 → Feeds unrecorded unrecorded new1 new2 s t m fed h1 h2)
     → StandsAfter old1 both.first → StandsAfter old2 both.second → AreFed new1 new2 (all_fed s t m both)
 feeds_both old1 new1 old2 new2 s t m fed both cause feeds first second = record {
   first = record { history = first.history ++ f.added1; stands = f.stands1; are = ap (λ (b : Both). b.first) (sym all) };
   second = record { history = second.history ++ f.added2; stands = f.stands2; are = ap (λ (b : Both). b.second) (sym all) };
 }
   where
-    f : Feeds untold untold new1 new2 s t m fed first.history second.history
+    f : Feeds unrecorded unrecorded new1 new2 s t m fed first.history second.history
     f = feeds first.history second.history first.stands second.stands
 
     i : IsFeed first.history s second.history t m fed f.added1 f.added2

@@ -32,7 +32,7 @@ use Rattle.room_core.specs.WellFormed.{AreWellFormed}
 use Rattle.cascade_laws.specs.Relayed.{AllPass, AreHandedOn, IsMaskedFor, IsNotFull, IsRelayed, KeepsWish, NoneIsFull, Shift, StandAlike, passed_since}
 use Rattle.cascade_laws.specs.Handing.{AreNear}
 use Rattle.cascade_laws.specs.Running.{AllLeaveOpen}
-use Rattle.cascade_laws.specs.Unmasked.{TellNoMask}
+use Rattle.cascade_laws.specs.Unmasked.{CarryNoMask}
 use Rattle.cascade.specs.Fed.{IsFed, before_join, packets_on, readdressed_all}
 
 -- Each call is one that the code can receive: SSRCs have 32 bits, and
@@ -107,7 +107,7 @@ pub record IsRun (id : ℕ) (i : Joined) (first : List Call) (events later since
   pub left_open : AllLeaveOpen i.wish since (WholeFrame k ∷ past)
   pub wish_is : (standing i.wish past).wish ≡ now
   pub wish_stays : KeepsWish now since
-  pub no_mask : TellNoMask k.meaning.epoch (said (format_of id) (items_of (entries_of i.track first)))
+  pub no_mask : CarryNoMask k.meaning.epoch (said (format_of id) (items_of (entries_of i.track first)))
   pub near : AreNear k.meaning (map meaning_of (passed_since i.wish since (WholeFrame k ∷ past)))
 
 -- The same run in u's timeline: a key frame for k, then a frame for each of the others, in order, with no others between.
@@ -119,11 +119,11 @@ pub record IsRunAgain (events later since past : List Happened) (k : Frame Templ
   pub others : AreHandedOn by target again.meaning.epoch passed (frames_of since)
 
 -- u had this wish all the time too, and its queue had space for each of these frames
-pub record HasWishAndRoom (wish now : Wish) (since past : List Happened) (again : Frame TemplateStructure) : Type 0 where
+pub record HasWishAndCapacity (wish now : Wish) (since past : List Happened) (again : Frame TemplateStructure) : Type 0 where
   pub wish_is : (standing wish past).wish ≡ now
   pub wish_stays : KeepsWish now since
-  pub first_has_room : IsNotFull (standing wish past) again.meaning (length again.packets)
-  pub others_have_room : NoneIsFull wish since (WholeFrame again ∷ past)
+  pub first_has_capacity : IsNotFull (standing wish past) again.meaning (length again.packets)
+  pub others_have_capacity : NoneIsFull wish since (WholeFrame again ∷ past)
 
 -- each of these frames passed to u, and the states of both subscribers correspond
 pub record PassesAgain (wish second_wish now : Wish) (since past second_since second_past : List Happened)
@@ -142,7 +142,7 @@ pub record RunsOn (wish now : Wish) (since past : List Happened) (k : Frame Temp
   pub again : Frame TemplateStructure
   pub by : Shift
   pub run : IsRunAgain events later second_since second_past k (passed_since wish since (WholeFrame k ∷ past)) target by again
-  pub pass : HasWishAndRoom second_wish now second_since second_past again
+  pub pass : HasWishAndCapacity second_wish now second_since second_past again
       → PassesAgain wish second_wish now since past second_since second_past k again target by
 
 -- u joined before the first packet of k came

@@ -17,13 +17,13 @@ use Rattle.cascade.specs.declared.endpoint.Endpoint.{Endpoint}
 use Rattle.cascade.specs.declared.two_rooms.TwoRooms.{TwoRooms}
 
 -- a recorder that stores nothing shows no calls
-abbrev pub untold : KeepNone → Option (List Noted)
-untold recorder = None
+abbrev pub unrecorded : KeepNone → Option (List Noted)
+unrecorded recorder = None
 
 -- the room represents some history in which these calls were accepted
 pub record StandsAfter (room : Room KeepNone) (past : List Call) : Type 0 where
   pub history : List Entry
-  pub stands : Stands untold room history
+  pub stands : Stands unrecorded room history
   pub are : accepted history ≡ past
 
 -- the receiver was fed these packets

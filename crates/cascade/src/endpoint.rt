@@ -12,7 +12,7 @@ use sfu_base::{NoMemory, Reply, Scratch};
 use std::alloc::Global;
 use strict_receiver::Receiver;
 
-/// The seat that makes all calls.
+/// The seat from which all calls on the rooms are made.
 pub const SEAT: u32 = 0;
 
 /// The header extension id of the dependency descriptors (RFC 8285).
@@ -26,7 +26,7 @@ const MOST_QUEUED: u32 = 512;
 pub struct Endpoint {
     /// The strict receiver of the packets that the subscriber took.
     pub receiver: Receiver,
-    /// Whether the receiver has a complaint.
+    /// Whether the receiver has a complaint about the packets fed to it so far.
     pub complains: bool,
 }
 
@@ -67,7 +67,7 @@ impl Endpoint {
         }
     }
 
-    /// Takes all packets queued for the subscriber with this number, and feeds each to the receiver.
+    /// Takes all packets that the room has queued for the subscriber numbered `subscriber`, and feeds each to the receiver.
     pub fn take_all(&mut self, subscriber: u32, room: &mut Room<KeepNone>, scratch: &mut Scratch)
         ensures room { (past : List Call) → StandsAfter room.old past → StandsAfter room.new (all_taken subscriber past) }
         ensures fed { (past : List Call) → StandsAfter room.old past → WasFed self.old (given_to subscriber past)

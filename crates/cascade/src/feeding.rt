@@ -9,7 +9,7 @@ ghost use Rattle.cascade.specs.Moving.{MovesOrEnds, refused_by};
 use room_core::{Recorder, Room};
 use sfu_base::{Refusal, Reply, Scratch};
 
-/// The outcome of a feed.
+/// The outcome of [`feed`].
 #[derive(Clone, Copy, Debug, PartialEq, Eq)]
 pub struct Fed {
     /// The number of packets that the second room accepted, at most 512.
@@ -55,10 +55,11 @@ fn move_one<A: Recorder, B: Recorder>(
     refused_by(second.packet(SEAT, track, moment, &scratch.packet))
 }
 
-/// Takes the packets queued for a subscriber of the first room, and feeds each to a track of the second room at `moment` (milliseconds).
-/// All calls are made as seat 0. The first refused call ends the feed, and `end` is its refusal: `Empty` if all packets were moved,
-/// `NoSubscriber` if the first room has no such subscriber. If the second room refuses a packet, `end` is a refusal of [`Room::packet`];
-/// that packet is lost, and the packets after it stay queued in the first room. `end` can be `NoMemory` only if a recorder may refuse.
+/// Takes the packets queued for a subscriber of the first room, and feeds each to a track of the second room at `moment` (milliseconds). All calls
+/// are made from seat 0. The feed ends at the first refused call, and [`Fed::end`] is the refusal of this call. The refusal is `Empty` if all
+/// queued packets were moved, and `NoSubscriber` if the first room has no such subscriber. If the second room refuses a packet, `end` is the
+/// refusal that [`Room::packet`] returned. That packet is lost, and the packets after it stay queued in the first room. If neither room's recorder
+/// may refuse, `end` is never `NoMemory`.
 pub fn feed<A: Recorder, B: Recorder>(
     first: &mut Room<A>,
     subscriber: u32,

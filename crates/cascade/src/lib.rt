@@ -1,9 +1,9 @@
-//! A cascade of two rooms: packets that a subscriber of one room takes are fed to a
-//! track of another room. That room forwards them to the track's subscribers. Own rules.
+//! A cascade of two rooms. The packets that a subscriber of the first room takes are fed to a track of the second room. The second room forwards
+//! them to the subscribers of this track. Own rules.
 //!
-//! [`feed`] moves the packets of one subscriber to one track. The laws say what happens to the frames forwarded to the first
-//! room's subscriber. [`play`] sends a generated stream through two rooms, with a strict receiver for each subscriber of the
-//! second room. The command [`cascade`] writes what the receivers found. The command [`trial`] does the same with one room.
+//! [`feed`] moves the packets of one subscriber to one track. The laws say how the second room forwards these packets. [`play`] sends a generated
+//! stream through two rooms, with a strict receiver for each subscriber of the second room. The command [`cascade`] writes what the receivers
+//! found. The command [`trial`] does the same with one room.
 #![tactic(auto)]
 
 mod command;

@@ -9,9 +9,9 @@ use sfu_base::{NoMemory, PacketBuf};
 use std::alloc::Global;
 use stream_maker::{Event, Maker};
 
-/// Sends a generated stream through two rooms to the three subscribers of the second room. The stream has `frames` frames;
-/// about `loss` percent of its packets are lost; `start` seeds the random generator. Returns five lines: two about the stream,
-/// and one for each subscriber with what a strict receiver finds in its packets. Returns `NoMemory` if memory runs out.
+/// Sends a generated stream through two rooms to the three subscribers of the second room. The stream has `frames` frames; about `loss` percent of
+/// its packets are lost; `start` seeds the random generator. Returns five lines: two about the stream, and one for each subscriber. A subscriber's
+/// line says what a strict receiver finds in the packets of this subscriber. Returns `NoMemory` if memory runs out.
 pub fn play(alloc: Global, frames: u32, start: u64, loss: u8) -> Result<String, NoMemory>
     requires some_frames { 1 ≤ frames }
     requires few_frames { frames ≤ 1000000 }

@@ -40,9 +40,9 @@ fn play(alloc: Global, frames: u32, start: u64, loss: u8) -> Result<String, NoMe
     Ok(text)
 }
 
-/// The command `trial`: sends a generated stream through a room to three subscribers. Writes what a strict receiver finds in each subscriber's
-/// packets. The stream has `frames` frames; about `loss` percent of its packets are lost; `start` seeds the random generator. Returns the status: 0,
-/// 4 if the sink failed, or 6 if memory ran out.
+/// The command `trial`: sends a generated stream through a room to three subscribers. A strict receiver checks each subscriber's packets, and its
+/// findings are written to `sink`. The stream has `frames` frames; about `loss` percent of its packets are lost; `start` seeds the random
+/// generator. Returns status 0 if all output was written, 4 if the sink failed, or 6 if memory ran out.
 pub fn trial<K: Sink>(alloc: Global, frames: u32, start: u64, loss: u8, sink: &mut K) -> Status
     requires some_frames { 1 ≤ frames }
     requires few_frames { frames ≤ 1000000 }

@@ -45,7 +45,8 @@ fn whole_text(
     Ok(text)
 }
 
-/// Returns five lines: two about the stream, and one with the counts of each subscriber's receiver. Returns `NoMemory` if memory runs out.
+/// Returns five lines: two about the stream, and one for each subscriber, with the counts of its strict receiver. Returns `NoMemory` if memory runs
+/// out.
 pub fn summary(
     alloc: Global,
     counts: Counts,

@@ -2,7 +2,7 @@
 use crate::feeding::feed;
 use crate::playing::play;
 use room_core::{KeepNone, Room};
-use sfu_base::{PacketBuf, Refusal, Scratch, SeqList};
+use sfu_base::{Refusal, Scratch};
 use std::test::Fail;
 
 // Worked out from the rules of the stream: 500 units of two frames, 10 of them key units.
@@ -47,10 +47,7 @@ fn nobody_is_fed_from(rt: HostRuntime) -> Result<(), Fail> {
     let alloc = rt.alloc();
     let mut first = Room::new(alloc, KeepNone::new());
     let mut second = Room::new(alloc, KeepNone::new());
-    let mut scratch = Scratch {
-        packet: PacketBuf::new(),
-        names: SeqList::new(),
-    };
+    let mut scratch = Scratch::new();
     let fed = feed(&mut first, 1, &mut second, 1, 0, &mut scratch);
     assert_eq!(rt; fed.moved, 0);
     assert_eq!(rt; fed.end, Refusal::NoSubscriber);

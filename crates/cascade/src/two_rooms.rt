@@ -7,7 +7,7 @@ ghost use Rattle.cascade.specs.Standing.{AreAfter, StandsAfter};
 use crate::endpoint::{EXTENSION, Endpoint, SEAT};
 use crate::feeding::feed;
 use room_core::{KeepNone, Room};
-use sfu_base::{Kind, NoMemory, PacketBuf, Refusal, Reply, Scratch, SeqList, Wish};
+use sfu_base::{Kind, NoMemory, PacketBuf, Refusal, Reply, Scratch, Wish};
 use std::alloc::Global;
 
 const PUBLISHER: u32 = 0x1111_1111;
@@ -15,24 +15,25 @@ const PUBLISHER: u32 = 0x1111_1111;
 // The tracks' hold in milliseconds: how long packets wait for a gap to be filled.
 const HOLD: u32 = 50;
 
-/// Two rooms, of which the first feeds the second, and a strict receiver for each of the second room's three subscribers.
+/// Two rooms and three strict receivers. Packets taken from the first room are fed to the second room. Each of the second room's three subscribers
+/// has its own receiver.
 #[derive(Drop)]
 pub struct TwoRooms {
-    /// The publisher's room. Its subscribers 1 and 2 feed the second room.
+    /// The publisher's room. The packets that its subscribers 1 and 2 take are fed to the second room.
     pub first: Room<KeepNone>,
-    /// The room that is fed: its track 1 is layered, its track 2 plain.
+    /// The second room. Its track 1 is layered, and its track 2 is plain.
     pub second: Room<KeepNone>,
     /// The buffers for the output of the calls. A take writes its packet into them.
     pub scratch: Scratch,
-    /// Subscriber 1 of the second room: track 1, with a wish for all layers.
+    /// The receiver of the second room's subscriber 1. This subscriber has track 1, and wishes for all layers.
     pub one: Endpoint,
-    /// Subscriber 2: track 1, with a wish for the lowest layer.
+    /// The receiver of the second room's subscriber 2. This subscriber has track 1, and wishes for only the lowest layer.
     pub two: Endpoint,
-    /// Subscriber 3: track 2.
+    /// The receiver of the second room's subscriber 3. This subscriber has track 2.
     pub three: Endpoint,
 }
 
-/// Returns `NoMemory` if the call ran out of memory.
+/// Returns `NoMemory` if the reply says that the call ran out of memory.
 pub fn found(reply: Reply) -> Result<(), NoMemory>
     ensures { OnOk result (is_starved reply ≡ false) }
 {
@@ -42,7 +43,7 @@ pub fn found(reply: Reply) -> Result<(), NoMemory>
     }
 }
 
-/// A wish for these layers and the lower ones.
+/// A wish for all layers up to and including this spatial and this temporal layer.
 pub fn wish(spatial: u8, temporal: u8) -> Wish
     ensures { result ≡ wish_for spatial temporal }
 {
@@ -76,8 +77,8 @@ fn open_second(alloc: Global) -> Result<Room<KeepNone>, NoMemory>
 }
 
 impl TwoRooms {
-    /// Returns both rooms with their tracks and subscribers, before the first packet of
-    /// the stream. Returns `NoMemory` if memory runs out for the rooms or for a receiver.
+    /// Returns two rooms to which no packet has been fed yet. Their tracks are published, and their subscribers have joined. Returns `NoMemory` if
+    /// memory runs out for the rooms or for a receiver.
     pub fn new(alloc: Global) -> Result<TwoRooms, NoMemory>
         ensures { IfOk result (λ rooms. AreAfter rooms opened) }
     {
@@ -89,17 +90,14 @@ impl TwoRooms {
         Ok(TwoRooms {
             first,
             second,
-            scratch: Scratch {
-                packet: PacketBuf::new(),
-                names: SeqList::new(),
-            },
+            scratch: Scratch::new(),
             one,
             two,
             three,
         })
     }
 
-    /// Feeds a packet to track 1 of the first room at this moment (milliseconds). The room may refuse it.
+    /// Feeds a packet to track 1 of the first room at the time `moment`, in milliseconds. The room may refuse the packet.
     pub fn packet(&mut self, moment: u64, bytes: &PacketBuf)
         ensures { (both : Both) → AreAfter self.old both → AreAfter self.new (after_packet moment bytes.now both) }
     {
@@ -144,8 +142,9 @@ impl TwoRooms {
         self.three.take_all(3, &mut self.second, &mut self.scratch);
     }
 
-    /// Ticks the first room at this moment (milliseconds). Then feeds the second room's tracks 1 and 2 from the first room's
-    /// subscribers 1 and 2, and ticks both tracks. Then each subscriber of the second room takes all its queued packets.
+    /// Ticks the first room's track at the time `moment`, in milliseconds. Then feeds the packets queued for the first room's subscriber 1 to the
+    /// second room's track 1, and those queued for subscriber 2 to track 2. Then ticks both tracks of the second room. Finally, each subscriber of
+    /// the second room takes all its queued packets.
     pub fn tick(&mut self, moment: u64)
         ensures { (both : Both) → AreAfter self.old both → AreAfter self.new (after_tick moment both) }
     {

@@ -270,20 +270,20 @@ module _ {S : Type 0} (by : Shift) (target : ℕ) (now wish second_wish : Wish) 
   -- if one more frame passed to the first subscriber, one more passes to the second
   one_passed : (s : Standing) (f : Frame S) (frames : List (Frame S)) → x.meaning.number < f.meaning.number → passes_at s f.meaning (length f.packets) ≡ true
       → candidate_at s f.meaning ≡ Open target x.meaning.number → After s frames → After (admitted true s f.meaning (length f.packets)) (f ∷ frames)
-  one_passed s f frames below passed open_is before [] keeps h room = absurd h
-  one_passed s f frames below passed open_is before (WholeFrame z ∷ second_since) keeps h room =
-      let i = before second_since keeps h.3 room.1 in
+  one_passed s f frames below passed open_is before [] keeps h capacity = absurd h
+  one_passed s f frames below passed open_is before (WholeFrame z ∷ second_since) keeps h capacity =
+      let i = before second_since keeps h.3 capacity.1 in
       let o = one_more by target x.meaning.number y.meaning.number y.meaning.epoch now s (at' second_since) f.meaning z.meaning (length f.packets) (length z.packets) i.1 openings
-      h.0 h.1 h.2 below passed open_is room.0 in
+      h.0 h.1 h.2 below passed open_is capacity.0 in
       ((o.0, i.0), subst (λ (b : Bool). Alike (admitted true s f.meaning (length f.packets)) (admitted b (at' second_since) z.meaning (length z.packets))) (sym o.0) o.1)
-  one_passed s f frames below passed open_is before (PlainPacket p ∷ second_since) keeps h room =
-      let i = one_passed s f frames below passed open_is before second_since keeps h room in
+  one_passed s f frames below passed open_is before (PlainPacket p ∷ second_since) keeps h capacity =
+      let i = one_passed s f frames below passed open_is before second_since keeps h capacity in
       (i.0, plain_there by target x.meaning.number y.meaning.number y.meaning.epoch now (admitted true s f.meaning (length f.packets)) (at' second_since) (plain_passes (at' second_since)) i.1)
-  one_passed s f frames below passed open_is before (WishChange w ∷ second_since) keeps h room =
-      let i = one_passed s f frames below passed open_is before second_since keeps.1 h room in
+  one_passed s f frames below passed open_is before (WishChange w ∷ second_since) keeps h capacity =
+      let i = one_passed s f frames below passed open_is before second_since keeps.1 h capacity in
       (i.0, wish_there by target x.meaning.number y.meaning.number y.meaning.epoch now (admitted true s f.meaning (length f.packets)) (at' second_since) w keeps.0 i.1)
-  one_passed s f frames below passed open_is before (Take ∷ second_since) keeps h room =
-      let i = one_passed s f frames below passed open_is before second_since keeps h room in
+  one_passed s f frames below passed open_is before (Take ∷ second_since) keeps h capacity =
+      let i = one_passed s f frames below passed open_is before second_since keeps h capacity in
       (i.0, queue_there by target x.meaning.number y.meaning.number y.meaning.epoch now (admitted true s f.meaning (length f.packets)) (at' second_since) _ i.1)
 
   abbrev at : List (Event S) → Standing
@@ -292,7 +292,7 @@ module _ {S : Type 0} (by : Shift) (target : ℕ) (now wish second_wish : Wish) 
   all_pass : Alike (standing wish (WholeFrame x ∷ past)) (standing second_wish (WholeFrame y ∷ second_past)) → (since : List (Event S))
       → IsOneTrack (meanings_of (since ++ WholeFrame x ∷ past)) → (at since).target ≡ Open target x.meaning.number → KeepsWish now since
       → After (at since) (passed_since wish since (WholeFrame x ∷ past))
-  all_pass a [] track open_is keeps = λ second_since keeps' h room. none_more (standing wish (WholeFrame x ∷ past)) a second_since keeps' h
+  all_pass a [] track open_is keeps = λ second_since keeps' h capacity. none_more (standing wish (WholeFrame x ∷ past)) a second_since keeps' h
   all_pass a (WholeFrame f ∷ since) track open_is keeps = go (passes_at (at since) f.meaning (length f.packets)) refl open_is (λ was. all_pass a since track.2 was keeps)
     where
       below : x.meaning.number < f.meaning.number
@@ -307,23 +307,23 @@ module _ {S : Type 0} (by : Shift) (target : ℕ) (now wish second_wish : Wish) 
           one_passed (at since) f (passed_since wish since (WholeFrame x ∷ past)) below e open_is (rec w.target_is)
       go false e open_is rec =
           let w = withheld_was_open (at since) f.meaning target x.meaning.number open_is in
-          λ second_since keeps' h room.
-          let i = rec w.target_is second_since keeps' h room in
+          λ second_since keeps' h capacity.
+          let i = rec w.target_is second_since keeps' h capacity in
           (i.0, one_withheld by target x.meaning.number y.meaning.number y.meaning.epoch now (at since) (at' second_since) f.meaning (length f.packets) i.1 w open_is)
   all_pass a (PlainPacket p ∷ since) track open_is keeps = go (plain_passes (at since)) open_is (λ was. all_pass a since track was keeps)
     where
       go : (b : Bool) → (after_plain b (at since)).target ≡ Open target x.meaning.number
           → ((at since).target ≡ Open target x.meaning.number → After (at since) (passed_since wish since (WholeFrame x ∷ past)))
           → After (after_plain b (at since)) (passed_since wish since (WholeFrame x ∷ past))
-      go true open_is rec = λ second_since keeps' h room.
-          let i = rec open_is second_since keeps' h room in
+      go true open_is rec = λ second_since keeps' h capacity.
+          let i = rec open_is second_since keeps' h capacity in
           (i.0, plain_here by target x.meaning.number y.meaning.number y.meaning.epoch now (at since) (at' second_since) true i.1)
       go false open_is rec = rec open_is
-  all_pass a (WishChange w ∷ since) track open_is keeps = λ second_since keeps' h room.
-      let i = all_pass a since track open_is keeps.1 second_since keeps' h room in
+  all_pass a (WishChange w ∷ since) track open_is keeps = λ second_since keeps' h capacity.
+      let i = all_pass a since track open_is keeps.1 second_since keeps' h capacity in
       (i.0, wish_here by target x.meaning.number y.meaning.number y.meaning.epoch now (at since) (at' second_since) w keeps.0 i.1)
-  all_pass a (Take ∷ since) track open_is keeps = λ second_since keeps' h room.
-      let i = all_pass a since track open_is keeps second_since keeps' h room in
+  all_pass a (Take ∷ since) track open_is keeps = λ second_since keeps' h capacity.
+      let i = all_pass a since track open_is keeps second_since keeps' h capacity in
       (i.0, queue_here by target x.meaning.number y.meaning.number y.meaning.epoch now (at since) (at' second_since) _ i.1)
 
   pub was_first : (since : List (Event S)) → IsOneTrack (meanings_of (since ++ WholeFrame x ∷ past)) → (at since).target ≡ Open target x.meaning.number
@@ -375,7 +375,7 @@ handed_on_frames_pass {S} by target now wish since past x second_wish second_sin
     first =
         first_alike by target now s u x.meaning y.meaning (length x.packets) (length y.packets) (key_begins wish past x.meaning track h.key)
         (key_begins second_wish second_past y.meaning h.second_track (key_same by x.meaning y.meaning h.first ∙ h.key)) h.wish_is h.second_wish_is h.key (track.0.key_references h.key)
-        h.first h.first_masked h.passed opens h.first_has_room
+        h.first h.first_masked h.passed opens h.first_has_capacity
 
     alike : StandAlike by target x.meaning.number y.meaning.number y.meaning.epoch now (standing wish (WholeFrame x ∷ past)) (standing second_wish (WholeFrame y ∷ second_past))
     alike =
@@ -387,4 +387,4 @@ handed_on_frames_pass {S} by target now wish since past x second_wish second_sin
     all : AllPass second_wish second_since (WholeFrame y ∷ second_past)
         × StandAlike by target x.meaning.number y.meaning.number y.meaning.epoch now (standing wish (since ++ WholeFrame x ∷ past)) (standing second_wish (second_since ++ WholeFrame y ∷ second_past))
     all =
-        all_pass by target now wish second_wish past second_past x y h.first.shifted alike since h.track h.stays h.wish_stays second_since h.second_wish_stays h.others h.others_have_room
+        all_pass by target now wish second_wish past second_past x y h.first.shifted alike since h.track h.stays h.wish_stays second_since h.second_wish_stays h.others h.others_have_capacity

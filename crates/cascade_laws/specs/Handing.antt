@@ -12,7 +12,7 @@ use Rattle.forwarding_model.specs.frames.Reading.{Format}
 use Rattle.forwarding_model.specs.frames.Frames.{Item, frames_after, state_after}
 use Rattle.forwarding_laws.specs.forwarding.Since.{EachFrameSince}
 use Rattle.cascade_laws.specs.Relayed.{AreHandedOn, IsMaskedFor, IsRelayed, IsShifted, Shift}
-use Rattle.cascade_laws.specs.Told.{IsSentAs}
+use Rattle.cascade_laws.specs.Described.{IsSentAs}
 
 -- ---- on the first track
 

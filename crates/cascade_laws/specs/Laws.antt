@@ -26,8 +26,8 @@ pub record IsHandedOn {S : Type 0} (by : Shift) (target : ℕ) (now wish : Wish)
   pub first : IsRelayed by x.meaning y.meaning
   pub first_masked : IsMaskedFor target x.meaning y.meaning
   pub others : AreHandedOn by target y.meaning.epoch (passed_since wish since (WholeFrame x ∷ past)) (frames_of second_since)
-  pub first_has_room : IsNotFull (standing second_wish second_past) y.meaning (length y.packets)
-  pub others_have_room : NoneIsFull second_wish second_since (WholeFrame y ∷ second_past)
+  pub first_has_capacity : IsNotFull (standing second_wish second_past) y.meaning (length y.packets)
+  pub others_have_capacity : NoneIsFull second_wish second_since (WholeFrame y ∷ second_past)
 
 -- Each of these frames passes to u, and the states of both subscribers correspond.
 pub record PassesOn {S : Type 0} (by : Shift) (target : ℕ) (now wish : Wish) (since past : List (Event S)) (x : Frame S) (second_wish : Wish)

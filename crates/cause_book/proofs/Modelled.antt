@@ -12,7 +12,7 @@ use Rattle.forwarding_model.specs.forwarding.Timeline.{Event, meanings_of}
 use Rattle.forwarding_model.specs.forwarding.Timeline.Event.{WholeFrame, PlainPacket, WishChange, Take}
 use Rattle.forwarding_model.specs.frames.TrackFrames.{IsOneTrack, Precedes}
 use Rattle.cause_book.specs.Book.{AreFalling, IsAboveAll, IsAfter, judged}
-use Rattle.cause_book.specs.Model.{TellsCausesOf}
+use Rattle.cause_book.specs.Model.{HasCausesOf}
 use Rattle.cause_book.proofs.Recent.{judged_recent}
 
 rising : (f : FrameMeaning) (gs : List FrameMeaning) → AllByRecursion (Precedes f) gs → AllByRecursion (λ g. g.number < f.number) gs
@@ -42,7 +42,7 @@ module _ {S : Type 0} where
   falling wish (Take ∷ past) h = falling wish past h
 
   pub keeps_causes : (wish : Wish) (events : List (Event S)) → IsOneTrack (meanings_of events)
-      → AreFalling (verdicts wish events) × ((book : List Step) → IsAfter book (verdicts wish events) → TellsCausesOf book wish events)
+      → AreFalling (verdicts wish events) × ((book : List Step) → IsAfter book (verdicts wish events) → HasCausesOf book wish events)
   keeps_causes wish events track =
       let falls : AreFalling (verdicts wish events) = falling wish events track in
       let same = λ (book : List Step) (n : ℕ) (at : IsAfter book (verdicts wish events)). ap (λ (steps : List Step). judged steps n) at ∙ judged_recent (verdicts wish events) n falls in (

@@ -10,11 +10,11 @@ use sfu_base::{NoMemory, Refusal, Step, Verdict};
 use std::alloc::Global;
 use std::marker::Model;
 
-/// The book covers this number of frame numbers, up to and including the newest (own rule).
+/// How many frame numbers the book covers. The newest frame number is the last of them (own rule).
 const SPAN: u64 = 4096;
 
-/// The verdicts on the frames of the last 4,096 numbers: whether and why each was forwarded. Contracts see the book as the list of these
-/// verdicts with their numbers, the newest first.
+/// The verdicts on the frames with the last 4,096 frame numbers. A verdict says whether a frame was forwarded, and why. Contracts see the book as a list
+/// of steps, the newest first. A step is a frame number with the verdict on that frame.
 #[derive(Debug, Drop)]
 pub struct CauseBook {
     newest: Option<u64>,
@@ -52,8 +52,8 @@ impl CauseBook {
         })
     }
 
-    /// Writes the verdict on the frame with this number, and forgets the verdicts on numbers 4,096 or more below it. If the number isn't above
-    /// all numbers written before, nothing changes.
+    /// Writes the verdict on the frame with this number. Then forgets the verdicts on numbers that are 4,096 or more below it. Changes nothing if a
+    /// verdict on this number or on a higher one was written before.
     pub fn write(&mut self, number: u64, verdict: Verdict)
         ensures written { IsAboveAll number self.old → self.new ≡ recent (record { number = number; verdict = verdict } ∷ self.old) }
         ensures unchanged { is_ahead (newest_number self.old) number ≡ false → self.new ≡ self.old }
@@ -72,9 +72,9 @@ impl CauseBook {
         self.newest = Some(number);
     }
 
-    /// Returns the cause of a number: the verdict on the frame with this number, or a hole if no frame has it. Returns `Ahead` if the number is
-    /// above the newest or no verdict was written, and `TooOld` if it is 4,096 or more below the newest. A verdict is found in constant time.
-    /// For a hole, the search runs from the number to the nearest frame on either side.
+    /// Returns the verdict on the frame with this number, or `Hole` if no frame has this number. Returns `Ahead` if the number is above the newest number,
+    /// or if no verdict was written. Returns `TooOld` if the number is 4,096 or more below the newest number. The verdict on a frame is found in constant
+    /// time. For a hole, the search runs down from the number to the nearest frame, and then up from the number to the nearest frame.
     pub fn verdict(&self, number: u64) -> Result<Verdict, Refusal>
         ensures judged { result ≡ judged self.now number }
         ensures stands { (steps : Steps) → IsAfter self.now steps → AreFalling steps → result ≡ judged steps number }

@@ -4,7 +4,7 @@ ghost use Rattle.std.specs.Prelude.{◌≡◌, None, Some};
 use sfu_base::{Step, Verdict};
 use std::marker::Model;
 
-/// A verdict, or nothing, in at most three 64-bit words. `HoleAbove` is a hole without a frame below it.
+/// A verdict, or `Nothing` in an empty entry. A value of this type takes at most three 64-bit words. `HoleAbove` is a hole with no frame below the hole.
 #[derive(Clone, Copy, Debug)]
 enum Kept {
     Nothing,
@@ -19,7 +19,7 @@ enum Kept {
     HoleAbove { above: u64 },
 }
 
-/// A frame number with the verdict on that frame, or nothing, in 32 bytes. Contracts see it as a step or `None`.
+/// An entry of 32 bytes: a frame number with the verdict on that frame, or no step. Contracts see the entry as a step or `None`.
 #[derive(Debug, Drop)]
 pub struct Entry {
     number: u64,
@@ -48,7 +48,7 @@ impl Entry {
         }
     }
 
-    /// The entry with this step: a frame number and the verdict on that frame.
+    /// The entry with the step of this frame number and this verdict.
     pub fn new(number: u64, verdict: Verdict) -> Entry
         ensures { result ≡ Some (record { number = number; verdict = verdict }) }
     {

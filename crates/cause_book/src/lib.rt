@@ -1,5 +1,5 @@
-//! Records whether and why the frames of the last 4,096 numbers were forwarded to a subscriber. Also checks whether a list of causes is a path
-//! to a root cause. Only the constructor allocates memory.
+//! Records for the last 4,096 frame numbers whether each frame was forwarded to a subscriber, and why. Also checks whether a list of causes is a path to a
+//! root cause. Only the constructor allocates memory.
 #![tactic(auto)]
 
 mod book;
@@ -8,5 +8,5 @@ mod laws;
 mod path;
 
 pub use book::CauseBook;
-pub use laws::a_book_tells_causes;
+pub use laws::a_book_has_causes;
 pub use path::check_path;

@@ -5,11 +5,13 @@ ghost use Rattle.cause_book.specs.Path.{is_path, is_root, leads_to};
 
 use sfu_base::{Step, Verdict};
 
-/// Whether the steps are a path from a frame that wasn't forwarded to its root cause (own rule). The steps are such a path if there is at least one step, and
-/// - each step but the last is a missing reference (`Reference`) or a broken chain link (`Link`), and names the number of the next step;
-/// - each number is below the number before it;
-/// - the last step is a root: a full queue (`Full`), a hole (`Hole`), a frame outside the target (`NotOfTarget`), an unopened target
-///   (`Unopened`), or a reference to before the epoch (`Behind`).
+/// Whether the steps are a path of causes (own rule). Such a path begins at a frame that wasn't forwarded, and ends at the root cause. The steps are a
+/// path if there is at least one step, and
+/// - each step before the last one is a missing reference (`Reference`) or a broken chain link (`Link`), and its verdict names the number of the next
+///   step;
+/// - the number of each step after the first is below the number of the step before it;
+/// - the last step is a root: a full queue (`Full`), a hole (`Hole`), a frame outside the target (`NotOfTarget`), an unopened target (`Unopened`), or a
+///   reference to a frame before the epoch (`Behind`).
 pub fn check_path(steps: &[Step]) -> bool
     ensures { IsTrue result ↔ IsPath steps.now }
 {

@@ -1,4 +1,4 @@
-//! Whether the previous frame in the chain that protects a decode target was forwarded (AV1 RTP payload format, Appendix A).
+//! Checks, for the chain that protects a decode target, whether the chain's previous frame was forwarded (AV1 RTP payload format, Appendix A).
 #![tactic(auto)]
 
 ghost use Rattle.std.specs.Prelude.{◌≡◌, ◌<◌, ◌==◌, List};
@@ -13,18 +13,18 @@ ghost use Rattle.chain_state.specs.Links.{LinkedIsIntact, is_linked, link_of, nu
 use ref_window::RefWindow;
 use sfu_base::FrameMeaning;
 
-/// Whether a chain is broken at a frame.
+/// The state of a chain at a frame: intact or broken.
 #[derive(Clone, Copy, Debug, PartialEq, Eq)]
 pub enum LinkState {
     /// The chain's previous frame was forwarded, or isn't needed.
     Intact,
-    /// The chain's previous frame has this number, and wasn't forwarded.
+    /// The chain's previous frame is frame `number`, which wasn't forwarded.
     Broken { number: u64 },
 }
 
-/// Returns the state, at `frame`, of the chain that protects the open target `target`. `passed` has the numbers of the epoch's
-/// forwarded frames. `opened` is the number of the frame at which the target was opened: earlier frames of the chain aren't
-/// needed. The chain is intact if there are no chains, or if the frame's distance in the chain (frame_chain_fdiff) is 0.
+/// Returns the state at `frame` of the chain that protects `target`, the open decode target. `passed` has the numbers of the epoch's forwarded frames.
+/// The target was opened at frame `opened`. Earlier frames of the chain aren't needed. If there are no chains, or if the frame's distance in the chain
+/// (frame_chain_fdiff) is 0, the result is `Intact`.
 pub fn link_state(frame: &FrameMeaning, target: u8, opened: u64, passed: &RefWindow) -> LinkState
     requires valid { IsValid frame.now }
     requires target { target < frame.now.target_count }
@@ -47,8 +47,9 @@ pub fn link_state(frame: &FrameMeaning, target: u8, opened: u64, passed: &RefWin
     }
 }
 
-/// Returns true if there are no chains. Otherwise returns whether bit d of the mask `forwarded` is 1, where d is the frame's distance in the
-/// target's chain (frame_chain_fdiff). Bit d, from 0 (the lowest) to 63, stands for the forwarded frame whose number is d below this one's.
+/// Returns true if there are no chains. Otherwise returns whether bit d of the mask `forwarded` is 1, where d is the frame's distance in the target's
+/// chain (frame_chain_fdiff). Each set bit i, from 0 (the lowest bit) to 63, stands for a forwarded frame whose number is i lower than that of
+/// `frame`.
 #[inline(always)]
 pub fn is_linked(frame: &FrameMeaning, target: u8, forwarded: u64) -> bool
     requires valid { IsValid frame.now }
@@ -58,8 +59,8 @@ pub fn is_linked(frame: &FrameMeaning, target: u8, forwarded: u64) -> bool
     frame.chain_count == 0 || has_bit(forwarded, distance_in_chain(frame, target))
 }
 
-/// A law: suppose that all forwarded frames have lower numbers than this frame, and that [`is_linked`]
-/// returns true for a mask of some of them. Then the chain is intact, whichever frame opened the target.
+/// A law: suppose that a frame's number is above the numbers of all forwarded frames. Suppose also that [`is_linked`] returns true for this frame and
+/// for a mask in which each set bit stands for a forwarded frame. Then the target's chain is intact at this frame, whichever frame opened the target.
 pub fn linked_chains_are_intact()
     ensures { LinkedIsIntact }
 {}

@@ -1,4 +1,4 @@
-//! Theorems about converted scripts, the packets of a trial, and the recorded packets of a subscriber's takes.
+//! Theorems about converted scripts, the packets of a trial, and the packets that a subscriber took and `record` reads.
 #![tactic(auto)]
 
 mod laws;

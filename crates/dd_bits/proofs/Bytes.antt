@@ -5,7 +5,7 @@ use Rattle.std.proofs.lemmas.Nat.{field_of}
 use Rattle.std.proofs.Math.Pow.{mod-mod-pow}
 use Rattle.dd_bits.specs.Bits.{value, bits_of, bits_of_bytes}
 use Rattle.dd_bits.specs.Reader.{bits_left}
-use Rattle.dd_bits.specs.Writer.{room, written}
+use Rattle.dd_bits.specs.Writer.{capacity, written}
 use Rattle.dd_bits.specs.declared.reader.BitReader.{BitReader}
 use Rattle.dd_bits.specs.declared.writer.BitWriter.{BitWriter}
 use Rattle.dd_bits.proofs.Values.{length-bits_of, value-bits_of, value-take, value-drop, bits_of-join, bits_of-split, bits_of-mod, bits_of-shifted}
@@ -58,7 +58,7 @@ unfolding written
 length-written w = omega (arith, w.whole, w.within, length-append (bits_of_bytes (take w.len w.bytes)) (bits_of w.used w.pending), length-bits_of_bytes (take w.len w.bytes), length-bits_of w.used w.pending, length-take w.len w.bytes)
 
 -- no writer has more bits than its capacity
-pub written_within : (w : BitWriter) → length (written w) ≤ room
+pub written_within : (w : BitWriter) → length (written w) ≤ capacity
 written_within w = omega (arith, length-written w, w.within)
 
 whole_byte : (used count p x y : ℕ) → x < 2 ^ count → used + count ≡ 8 → y ≡ p * 2 ^ count + x → bits_of 8 y ≡ bits_of used p ++ bits_of count x

@@ -61,12 +61,12 @@ shown_done view item xs count i input total le ge so_far = let e : count ≡ i =
 
 -- ---- items up to a mark
 
-pub until_more : {A E S : Type 0} (next : A → S → Result (Option A × S) E) (full : E) (front : List A) (room i : ℕ) (before x : A) (input after : S) (total : Result (List A × S) E) → i < room → next before input ≡ Ok (Some x, after)
-    → with_front front (until_at next full (room - i) before input) ≡ total → with_front (front ++ x ∷ []) (until_at next full (room - (i + 1)) x after) ≡ total
+pub until_more : {A E S : Type 0} (next : A → S → Result (Option A × S) E) (full : E) (front : List A) (capacity i : ℕ) (before x : A) (input after : S) (total : Result (List A × S) E) → i < capacity → next before input ≡ Ok (Some x, after)
+    → with_front front (until_at next full (capacity - i) before input) ≡ total → with_front (front ++ x ∷ []) (until_at next full (capacity - (i + 1)) x after) ≡ total
 unfolding until_at
-until_more next full front room i before x input after total lt h so_far =
-    let k : room - i ≡ suc (room - (i + 1)) = omega arith in
-    let one : with_front front (until_at next full (room - i) before input) ≡ with_front (front ++ x ∷ []) (until_at next full (room - (i + 1)) x after) = rw (k, h) (regroup front x (until_at next full (room - (i + 1)) x after)) in
+until_more next full front capacity i before x input after total lt h so_far =
+    let k : capacity - i ≡ suc (capacity - (i + 1)) = omega arith in
+    let one : with_front front (until_at next full (capacity - i) before input) ≡ with_front (front ++ x ∷ []) (until_at next full (capacity - (i + 1)) x after) = rw (k, h) (regroup front x (until_at next full (capacity - (i + 1)) x after)) in
     sym one ∙ so_far
 
 until_none : {A E S : Type 0} (next : A → S → Result (Option A × S) E) (full : E) (left : ℕ) (before : A) (input after : S) → next before input ≡ Ok (None, after) → until_at next full left before input ≡ Ok ([], after)
@@ -88,20 +88,20 @@ pub until_fails : {A E S : Type 0} (next : A → S → Result (Option A × S) E)
     → with_front front (until_at next full left before input) ≡ total → total ≡ Err e
 until_fails next full front left before input e total h so_far = sym so_far ∙ rw (until_err next full left before input e h) refl
 
-pub until_full : {A E S : Type 0} (next : A → S → Result (Option A × S) E) (full : E) (front : List A) (room i : ℕ) (before x : A) (input after : S) (total : Result (List A × S) E) → room ≤ i → next before input ≡ Ok (Some x, after)
-    → with_front front (until_at next full (room - i) before input) ≡ total → total ≡ Err full
+pub until_full : {A E S : Type 0} (next : A → S → Result (Option A × S) E) (full : E) (front : List A) (capacity i : ℕ) (before x : A) (input after : S) (total : Result (List A × S) E) → capacity ≤ i → next before input ≡ Ok (Some x, after)
+    → with_front front (until_at next full (capacity - i) before input) ≡ total → total ≡ Err full
 unfolding until_at
-until_full next full front room i before x input after total le h so_far =
-    let k : room - i ≡ 0 = omega arith in
-    let one : with_front front (until_at next full (room - i) before input) ≡ Err full = rw (k, h) refl in
+until_full next full front capacity i before x input after total le h so_far =
+    let k : capacity - i ≡ 0 = omega arith in
+    let one : with_front front (until_at next full (capacity - i) before input) ≡ Err full = rw (k, h) refl in
     sym so_far ∙ one
 
-pub array_until_more : {A E S : Type 0} (next : A → S → Result (Option A × S) E) (full : E) (xs : List A) (room i : ℕ) (before x : A) (input after : S) (total : Result (List A × S) E) → i < length xs → i < room → next before input ≡ Ok (Some x, after)
-    → with_front (take i xs) (until_at next full (room - i) before input) ≡ total → with_front (take (i + 1) (set xs i x)) (until_at next full (room - (i + 1)) x after) ≡ total
-array_until_more next full xs room i before x input after total within lt h so_far = rw (take_more_set xs i x within) (until_more next full (take i xs) room i before x input after total lt h so_far)
+pub array_until_more : {A E S : Type 0} (next : A → S → Result (Option A × S) E) (full : E) (xs : List A) (capacity i : ℕ) (before x : A) (input after : S) (total : Result (List A × S) E) → i < length xs → i < capacity → next before input ≡ Ok (Some x, after)
+    → with_front (take i xs) (until_at next full (capacity - i) before input) ≡ total → with_front (take (i + 1) (set xs i x)) (until_at next full (capacity - (i + 1)) x after) ≡ total
+array_until_more next full xs capacity i before x input after total within lt h so_far = rw (take_more_set xs i x within) (until_more next full (take i xs) capacity i before x input after total lt h so_far)
 
 -- items that don't depend on the one before them
-pub until_any : {A E S : Type 0} (next : S → Result (Option A × S) E) (full : E) (room : ℕ) (a b : A) (input : S) → until_at (λ before. next) full room a input ≡ until_at (λ before. next) full room b input
+pub until_any : {A E S : Type 0} (next : S → Result (Option A × S) E) (full : E) (capacity : ℕ) (a b : A) (input : S) → until_at (λ before. next) full capacity a input ≡ until_at (λ before. next) full capacity b input
 unfolding until_at
 until_any next full zero a b input = refl
-until_any next full (suc room) a b input = refl
+until_any next full (suc capacity) a b input = refl

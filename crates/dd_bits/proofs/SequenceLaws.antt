@@ -54,14 +54,14 @@ row_again P item spell each n xs rest h = ap (λ (n : ℕ). repeat_at item n (fl
 
 pub until_again : {A E T : Type 0} (R : A → A → Type 0) (next : A → List T → Result (Option A × List T) E) (full : E) (step : A → A → List T) (mark : List T)
     → ((before x : A) (rest : List T) → R before x → next before (step before x ++ rest) ≡ Ok (Some x, rest)) → ((before : A) (rest : List T) → next before (mark ++ rest) ≡ Ok (None, rest))
-    → (room : ℕ) (before : A) (xs : List A) (rest : List T) → length xs ≤ room → EachAfter R before xs → until_at next full room before (until_spelled step mark before xs ++ rest) ≡ Ok (xs, rest)
+    → (capacity : ℕ) (before : A) (xs : List A) (rest : List T) → length xs ≤ capacity → EachAfter R before xs → until_at next full capacity before (until_spelled step mark before xs ++ rest) ≡ Ok (xs, rest)
 unfolding until_at
 until_again R next full step mark each ends zero before [] rest few steps = rw (ends before rest) refl
-until_again R next full step mark each ends (suc room) before [] rest few steps = rw (ends before rest) refl
+until_again R next full step mark each ends (suc capacity) before [] rest few steps = rw (ends before rest) refl
 until_again R next full step mark each ends zero before (x ∷ xs) rest few steps = absurd (omega arith)
-until_again R next full step mark each ends (suc room) before (x ∷ xs) rest few steps =
-    ap (until_at next full (suc room) before) (append_assoc (step before x) (until_spelled step mark x xs) rest)
-    ∙ rw (each before x (until_spelled step mark x xs ++ rest) steps.0, until_again R next full step mark each ends room x xs rest (omega arith) steps.1) refl
+until_again R next full step mark each ends (suc capacity) before (x ∷ xs) rest few steps =
+    ap (until_at next full (suc capacity) before) (append_assoc (step before x) (until_spelled step mark x xs) rest)
+    ∙ rw (each before x (until_spelled step mark x xs ++ rest) steps.0, until_again R next full step mark each ends capacity x xs rest (omega arith) steps.1) refl
 
 -- ---- what was read had this encoding
 
@@ -85,36 +85,36 @@ repeat_found {A = A} {E = E} {T = T} P item spell each (suc n) input ys e =
     (ap suc all.0, (here.0, all.1), here.1 ∙ ap (λ (t : List T). spell a.0.0 ++ t) all.2 ∙ sym (append_assoc (spell a.0.0) (flat_map spell b.0.0) b.0.1))
 
 abbrev pub TakesUntil : {A T : Type 0} → (A → A → Type 0) → (A → A → List T) → List T → ℕ → A → List T → List A × List T → Type 0
-TakesUntil R step mark room before input ys = EachAfter R before ys.0 × (length ys.0 ≤ room) × (input ≡ until_spelled step mark before ys.0 ++ ys.1)
+TakesUntil R step mark capacity before input ys = EachAfter R before ys.0 × (length ys.0 ≤ capacity) × (input ≡ until_spelled step mark before ys.0 ++ ys.1)
 
 until_end : {A E T : Type 0} (R : A → A → Type 0) (step : A → A → List T) (mark : List T) (before : A) (full : E) (input : List T) (o : Option A × List T) (ys : List A × List T)
     → ((rest : List T) → o ≡ (None, rest) → input ≡ mark ++ rest) → going_on {E = E} (λ x rest. Err full) o ≡ Ok ys → TakesUntil R step mark 0 before input ys
 until_end {A = A} {E = E} {T = T} R step mark before full input (None, rest) ys ends e = subst (λ (y : List A × List T). TakesUntil R step mark 0 before input y) (ok_is {E = E} ([], rest) ys e) (tt, omega arith, ends rest refl)
 until_end R step mark before full input (Some x, rest) ys ends e = absurd cc
 
-until_went : {A E T : Type 0} (R : A → A → Type 0) (step : A → A → List T) (mark : List T) (room : ℕ) (before : A) (input : List T) (more : A → List T → Result (List A × List T) E)
-    → ((x : A) (rest : List T) (zs : List A × List T) → more x rest ≡ Ok zs → TakesUntil R step mark room x rest zs)
+until_went : {A E T : Type 0} (R : A → A → Type 0) (step : A → A → List T) (mark : List T) (capacity : ℕ) (before : A) (input : List T) (more : A → List T → Result (List A × List T) E)
+    → ((x : A) (rest : List T) (zs : List A × List T) → more x rest ≡ Ok zs → TakesUntil R step mark capacity x rest zs)
     → (o : Option A × List T) (ys : List A × List T) → ((x : A) (rest : List T) → o ≡ (Some x, rest) → R before x × (input ≡ step before x ++ rest)) → ((rest : List T) → o ≡ (None, rest) → input ≡ mark ++ rest)
-    → going_on more o ≡ Ok ys → TakesUntil R step mark (suc room) before input ys
-until_went {A = A} {E = E} {T = T} R step mark room before input more ih (None, rest) ys here ends e =
-    subst (λ (y : List A × List T). TakesUntil R step mark (suc room) before input y) (ok_is {E = E} ([], rest) ys e) (tt, omega arith, ends rest refl)
-until_went {A = A} {E = E} {T = T} R step mark room before input more ih (Some x, rest) ys here ends e =
+    → going_on more o ≡ Ok ys → TakesUntil R step mark (suc capacity) before input ys
+until_went {A = A} {E = E} {T = T} R step mark capacity before input more ih (None, rest) ys here ends e =
+    subst (λ (y : List A × List T). TakesUntil R step mark (suc capacity) before input y) (ok_is {E = E} ([], rest) ys e) (tt, omega arith, ends rest refl)
+until_went {A = A} {E = E} {T = T} R step mark capacity before input more ih (Some x, rest) ys here ends e =
     let b = bind_ok (more x rest) (λ others. Ok (x ∷ others.0, others.1)) ys e in
     let all = ih x rest b.0 b.1 in
     let first = here x rest refl in
-    subst (λ (y : List A × List T). TakesUntil R step mark (suc room) before input y) (ok_is {E = E} (x ∷ b.0.0, b.0.1) ys b.2)
+    subst (λ (y : List A × List T). TakesUntil R step mark (suc capacity) before input y) (ok_is {E = E} (x ∷ b.0.0, b.0.1) ys b.2)
     ((first.0, all.0), omega (arith, all.1), first.1 ∙ ap (λ (t : List T). step before x ++ t) all.2 ∙ sym (append_assoc (step before x) (until_spelled step mark x b.0.0) b.0.1))
 
 pub until_found : {A E T : Type 0} (R : A → A → Type 0) (next : A → List T → Result (Option A × List T) E) (full : E) (step : A → A → List T) (mark : List T)
     → ((before x : A) (input rest : List T) → next before input ≡ Ok (Some x, rest) → R before x × (input ≡ step before x ++ rest)) → ((before : A) (input rest : List T) → next before input ≡ Ok (None, rest) → input ≡ mark ++ rest)
-    → (room : ℕ) (before : A) (input : List T) (ys : List A × List T) → until_at next full room before input ≡ Ok ys → TakesUntil R step mark room before input ys
+    → (capacity : ℕ) (before : A) (input : List T) (ys : List A × List T) → until_at next full capacity before input ≡ Ok ys → TakesUntil R step mark capacity before input ys
 unfolding until_at
 until_found {A = A} {E = E} {T = T} R next full step mark each ends zero before input ys e =
     let a = bind_ok (next before input) (going_on (λ x rest. Err full)) ys e in
     until_end R step mark before full input a.0 ys (λ rest is. ends before input rest (a.1 ∙ ap (λ (o : Option A × List T). done {E = E} o) is)) a.2
-until_found {A = A} {E = E} {T = T} R next full step mark each ends (suc room) before input ys e =
-    let a = bind_ok (next before input) (going_on (until_at next full room)) ys e in
-    until_went R step mark room before input (until_at next full room) (λ x rest zs h. until_found R next full step mark each ends room x rest zs h) a.0 ys (λ x rest is. each before x input rest (a.1 ∙ ap (λ (o : Option A × List T). done {E = E} o) is))
+until_found {A = A} {E = E} {T = T} R next full step mark each ends (suc capacity) before input ys e =
+    let a = bind_ok (next before input) (going_on (until_at next full capacity)) ys e in
+    until_went R step mark capacity before input (until_at next full capacity) (λ x rest zs h. until_found R next full step mark each ends capacity x rest zs h) a.0 ys (λ x rest is. each before x input rest (a.1 ∙ ap (λ (o : Option A × List T). done {E = E} o) is))
     (λ rest is. ends before input rest (a.1 ∙ ap (λ (o : Option A × List T). done {E = E} o) is)) a.2
 
 -- ---- items that don't depend on the one before them

@@ -5,19 +5,19 @@ use Rattle.std.proofs.lemmas.List.{length-append, length-take, at_drop_more, at_
 use Rattle.std.proofs.Math.Seq.{take-add}
 use Rattle.dd_bits.specs.Bits.{value, bits_of}
 use Rattle.dd_bits.specs.Sequences.{until_spelled}
-use Rattle.dd_bits.specs.Writer.{room, written, Puts}
+use Rattle.dd_bits.specs.Writer.{capacity, written, Puts}
 use Rattle.dd_bits.specs.declared.writer.BitWriter.{BitWriter}
 use Rattle.dd_bits.specs.declared.writer.NoRoom.{NoRoom}
 use Rattle.dd_bits.proofs.Values.{bits_of-value}
 
 -- if a part doesn't fit, the whole doesn't fit
-pub no_room : (old item more start whole : List Bool) → old ++ (item ++ more) ≡ start ++ whole → room < length old + length item → room < length start + length whole
-no_room old item more start whole e full = omega (arith, ap length e, length-append old (item ++ more), length-append item more, length-append start whole)
+pub past_capacity : (old item more start whole : List Bool) → old ++ (item ++ more) ≡ start ++ whole → capacity < length old + length item → capacity < length start + length whole
+past_capacity old item more start whole e full = omega (arith, ap length e, length-append old (item ++ more), length-append item more, length-append start whole)
 
-pub no_room_at : {A : Type 0} (spell : A → List Bool) (xs : List A) (i : ℕ) (d : A) (old start whole : List Bool) → i < length xs → old ++ flat_map spell (drop i xs) ≡ start ++ whole → room < length old + length (spell (get_or xs i d)) → room < length start + length whole
-no_room_at spell xs i d old start whole lt e full =
+pub past_capacity_at : {A : Type 0} (spell : A → List Bool) (xs : List A) (i : ℕ) (d : A) (old start whole : List Bool) → i < length xs → old ++ flat_map spell (drop i xs) ≡ start ++ whole → capacity < length old + length (spell (get_or xs i d)) → capacity < length start + length whole
+past_capacity_at spell xs i d old start whole lt e full =
     let next = at_drop_more (flat_map spell) xs i d lt in
-    no_room old (spell (get_or xs i d)) (flat_map spell (drop (i + 1) xs)) start whole (ap (λ (t : List Bool). old ++ t) (sym next) ∙ e) full
+    past_capacity old (spell (get_or xs i d)) (flat_map spell (drop (i + 1) xs)) start whole (ap (λ (t : List Bool). old ++ t) (sym next) ∙ e) full
 
 pub put_at : {A : Type 0} (spell : A → List Bool) (xs : List A) (i : ℕ) (d : A) (old new total : List Bool) → i < length xs → old ++ flat_map spell (drop i xs) ≡ total → new ≡ old ++ spell (get_or xs i d) → new ++ flat_map spell (drop (i + 1) xs) ≡ total
 put_at spell xs i d old new total lt e here =
@@ -25,11 +25,11 @@ put_at spell xs i d old new total lt e here =
     rw here (append_assoc old (spell (get_or xs i d)) (flat_map spell (drop (i + 1) xs)) ∙ ap (λ (t : List Bool). old ++ t) (sym next) ∙ e)
 
 -- items, each after the one before it, up to a mark
-pub until_no_room : {A : Type 0} (item : A → A → List Bool) (mark : List Bool) (before : A) (xs : List A) (i : ℕ) (d : A) (old start whole : List Bool) → i < length xs → old ++ until_spelled item mark before (drop i xs) ≡ start ++ whole
-    → room < length old + length (item before (get_or xs i d)) → room < length start + length whole
-until_no_room item mark before xs i d old start whole lt e full =
+pub until_past_capacity : {A : Type 0} (item : A → A → List Bool) (mark : List Bool) (before : A) (xs : List A) (i : ℕ) (d : A) (old start whole : List Bool) → i < length xs → old ++ until_spelled item mark before (drop i xs) ≡ start ++ whole
+    → capacity < length old + length (item before (get_or xs i d)) → capacity < length start + length whole
+until_past_capacity item mark before xs i d old start whole lt e full =
     let next = at_drop_more (until_spelled item mark before) xs i d lt in
-    no_room old (item before (get_or xs i d)) (until_spelled item mark (get_or xs i d) (drop (i + 1) xs)) start whole (ap (λ (t : List Bool). old ++ t) (sym next) ∙ e) full
+    past_capacity old (item before (get_or xs i d)) (until_spelled item mark (get_or xs i d) (drop (i + 1) xs)) start whole (ap (λ (t : List Bool). old ++ t) (sym next) ∙ e) full
 
 pub until_put : {A : Type 0} (item : A → A → List Bool) (mark : List Bool) (before : A) (xs : List A) (i : ℕ) (d : A) (old new total : List Bool) → i < length xs → old ++ until_spelled item mark before (drop i xs) ≡ total
     → new ≡ old ++ item before (get_or xs i d) → new ++ until_spelled item mark (get_or xs i d) (drop (i + 1) xs) ≡ total
@@ -59,5 +59,5 @@ pub puts_then : (r : Result (Unit {0}) NoRoom) (start mid new : BitWriter) (a b 
 puts_then (Ok x) start mid new a b e h = h ∙ ap (λ (t : List Bool). t ++ b) e ∙ append_assoc (written start) a b
 puts_then (Err x) start mid new a b e h = omega (arith, h, ap length e, length-append (written start) a, length-append a b)
 
-pub puts_early : (start : BitWriter) (a b : List Bool) → room < length (written start) + length a → room < length (written start) + length (a ++ b)
+pub puts_early : (start : BitWriter) (a b : List Bool) → capacity < length (written start) + length a → capacity < length (written start) + length (a ++ b)
 puts_early start a b h = omega (arith, h, length-append a b)

@@ -42,7 +42,7 @@ going_on more (Some x, input) = more x input >>= λ others. Ok (x ∷ others.0, 
 -- items up to a mark, each read after the one before it; if there are more items than the limit, the fault is `full`
 unfoldable pub until_at : {A E S : Type 0} → (A → S → Result (Option A × S) E) → E → ℕ → A → S → Result (List A × S) E
 until_at next full zero before input = next before input >>= going_on (λ x rest. Err full)
-until_at next full (suc room) before input = next before input >>= going_on (until_at next full room)
+until_at next full (suc capacity) before input = next before input >>= going_on (until_at next full capacity)
 
 -- the encoding of such items, each after the one before it, and of the mark
 abbrev pub until_spelled : {A T : Type 0} → (A → A → List T) → List T → A → List A → List T

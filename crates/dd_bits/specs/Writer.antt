@@ -5,8 +5,8 @@ use Rattle.dd_bits.specs.declared.writer.BitWriter.{BitWriter}
 use Rattle.dd_bits.specs.declared.writer.NoRoom.{NoRoom}
 
 -- the capacity of a writer in bits, those of 2,040 bytes (own rule)
-abbrev pub room : ℕ
-room = 8 * 2040
+abbrev pub capacity : ℕ
+capacity = 8 * 2040
 
 -- the bits that were written so far
 unfoldable pub written : BitWriter → List Bool
@@ -22,4 +22,4 @@ pub record IsPadded (bits : List Bool) (bytes : List ℕ) : Type 0 where
 -- appended, unless a clause says otherwise.
 abbrev pub Puts : Result (Unit {0}) NoRoom → BitWriter → BitWriter → List Bool → Type 0
 Puts (Ok x) old new bits = written new ≡ written old ++ bits
-Puts (Err e) old new bits = room < length (written old) + length bits
+Puts (Err e) old new bits = capacity < length (written old) + length bits

@@ -13,7 +13,7 @@ pub fn digit_count(n: u32) -> u8
     (32 - n.leading_zeros()) as u8
 }
 
-/// The encoding ns(n) has a short form, which has one bit fewer than n has binary digits. Returns how many of the numbers below n have the short form.
+/// Returns how many of the numbers below n have the short form of the encoding ns(n). If n has d binary digits, the short form has d - 1 bits.
 pub fn short_form_count(n: u32) -> u32
     requires { 1 ≤ n }
     ensures value { result ≡ short_forms n }
@@ -25,7 +25,7 @@ pub fn short_form_count(n: u32) -> u32
     (all - n as u64) as u32
 }
 
-/// Returns the `count` digits of a number that are directly above its lowest `behind` digits.
+/// Drops the lowest `behind` binary digits of a number, and returns the lowest `count` digits of the rest.
 pub fn digits_at(number: u32, behind: u8, count: u8) -> u32
     requires { count ≤ 8 }
     ensures value { result ≡ number / 2 ^ behind % 2 ^ count }
@@ -38,7 +38,7 @@ pub fn digits_at(number: u32, behind: u8, count: u8) -> u32
     }
 }
 
-/// Appends the `count` digits of `more` to the digits of `number`, and returns the result.
+/// Appends the `count` binary digits of `more` to the binary digits of `number`, and returns the result.
 pub fn with_digits(number: u32, count: u8, more: u32) -> u32
     requires count { count ≤ 8 }
     requires more { more < 2 ^ count }
@@ -48,7 +48,7 @@ pub fn with_digits(number: u32, count: u8, more: u32) -> u32
     (number << count) + more
 }
 
-/// Returns the byte whose highest bits are the `count` digits of `digits`. Its other bits are 0.
+/// Returns a byte whose highest `count` bits hold `digits`. Its other bits are 0.
 pub fn byte_with(digits: u32, count: u8) -> u8
     requires count { count ≤ 8 }
     requires small { digits < 2 ^ count }

@@ -11,7 +11,7 @@ pub struct Short;
 /// The remaining bits of a slice. The highest bit of each byte is read first.
 #[derive(Clone, Copy, Debug)]
 pub struct BitReader<'a> {
-    /// The remaining bytes. The first of them has the next bit.
+    /// The remaining bytes. The next bit is in the first of them.
     rest: &'a [u8],
     /// How many bits of the first remaining byte have been read already.
     used: u8,
@@ -24,7 +24,7 @@ impl<'a> BitReader<'a> {
     ghost use Rattle.dd_bits.specs.Reader.{bits_left};
     ghost use Rattle.dd_bits.specs.Sequences.{Gives, fixed_or, non_symmetric_or};
 
-    /// A reader of all bits of these bytes.
+    /// Returns a reader of all bits of `bytes`.
     pub fn new(bytes: &'a [u8]) -> BitReader<'a>
         ensures { bits_left result ≡ bits_of_bytes bytes.now }
     {
@@ -34,7 +34,7 @@ impl<'a> BitReader<'a> {
         }
     }
 
-    /// Returns how many bits are left, or `usize::MAX` if more than that are left.
+    /// Returns how many bits are left, capped at `usize::MAX`.
     pub fn left(&self) -> usize
         ensures { result ≡ min (length (bits_left self.now)) usize.MAX }
     {
@@ -47,14 +47,14 @@ impl<'a> BitReader<'a> {
         }
     }
 
-    /// Returns how many bits are left. Unlike [`BitReader::left`], this has no upper limit.
+    /// Returns how many bits are left. This count isn't capped, unlike that of [`BitReader::left`].
     pub(crate) fn count(&self) -> u128
         ensures { result ≡ length (bits_left self.now) }
     {
         (self.rest.len() as u128 * 8).saturating_sub(self.used as u128)
     }
 
-    /// Reads a number of n bits, f(n). Returns `Short` and leaves the reader unchanged if fewer than n bits are left.
+    /// Reads an f(n) field: a number of n bits. Returns `Short` and leaves the reader unchanged if fewer than n bits are left.
     pub fn bits(&mut self, n: u8) -> Result<u32, Short>
         requires { n ≤ 32 }
         ensures read { IfOk result (λ v. fixed n (bits_left self.old) ≡ Some (v, bits_left self.new)) }
@@ -68,7 +68,7 @@ impl<'a> BitReader<'a> {
         Ok(self.take_bits(n))
     }
 
-    /// Reads a number below n, ns(n). Returns `Short` and leaves the reader unchanged if too few bits are left.
+    /// Reads an ns(n) field: a number below n. Returns `Short` and leaves the reader unchanged if too few bits are left.
     pub fn ns(&mut self, n: u32) -> Result<u32, Short>
         requires { 1 ≤ n }
         ensures read { IfOk result (λ v. non_symmetric n (bits_left self.old) ≡ Some (v, bits_left self.new)) }
@@ -111,7 +111,7 @@ impl<'a> BitReader<'a> {
         self.ns(n).map_err(|_| short)
     }
 
-    /// Reads n bits, byte by byte. From each byte it reads the bits that are still needed, but not more than the byte has left.
+    /// Reads n bits, byte by byte. Each step reads the unread bits of one byte, or only as many of them as are still needed.
     pub(crate) fn take_bits(&mut self, n: u8) -> u32
         requires width { n ≤ 32 }
         requires enough { n ≤ length (bits_left self.old) }
@@ -128,7 +128,7 @@ impl<'a> BitReader<'a> {
         number
     }
 
-    /// Reads `count` bits, all of which are in the first remaining byte.
+    /// Reads `count` bits. All of them are in the first remaining byte.
     fn take_in_byte(&mut self, count: u8) -> u32
         requires some { 1 ≤ length (bits_left self.old) }
         requires in_byte { self.old.used + count ≤ 8 }

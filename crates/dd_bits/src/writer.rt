@@ -18,7 +18,7 @@ pub struct BitWriter {
     bytes: [u8; MOST],
     /// How many bytes are full.
     len: usize,
-    /// How many bits, 0 to 7, have been written to the byte after the full ones. `pending` is the number that these bits encode.
+    /// How many bits, 0 to 7, have been written to the byte after the full bytes. `pending` holds these bits as a number.
     used: u8,
     pending: u32,
     ghost whole: { length bytes ≡ 2040 },
@@ -32,9 +32,9 @@ impl BitWriter {
     ghost use Rattle.dd_bits.specs.Bits.{bits_of};
     ghost use Rattle.dd_bits.specs.Numbers.{non_symmetric_bits};
     ghost use Rattle.dd_bits.specs.Reader.{bits_left, bits_between};
-    ghost use Rattle.dd_bits.specs.Writer.{room, written, IsPadded, Puts};
+    ghost use Rattle.dd_bits.specs.Writer.{capacity, written, IsPadded, Puts};
 
-    /// An empty writer.
+    /// Returns an empty writer.
     pub fn new() -> BitWriter
         ensures { written result ≡ [] }
     {
@@ -46,7 +46,7 @@ impl BitWriter {
         }
     }
 
-    /// Removes all bits. Reusing a writer costs less than a new one, because the bytes aren't cleared.
+    /// Removes all bits. Reusing a writer costs less than making a new one, because the bytes aren't cleared.
     pub fn clear(&mut self)
         ensures { written self.new ≡ [] }
     {
@@ -55,12 +55,13 @@ impl BitWriter {
         self.pending = 0;
     }
 
-    /// Appends a number in n bits, f(n). Returns `NoRoom` and leaves the writer unchanged if the bits would exceed 2,040 bytes.
+    /// Appends an f(n) field: `value` in n bits. Returns `NoRoom` and leaves the writer unchanged if the written bits would then need more than
+    /// 2,040 bytes.
     pub fn put(&mut self, n: u8, value: u32) -> Result<(), NoRoom>
         requires { value < 2 ^ n }
         ensures put { Puts result self.old self.new (bits_of n value) }
         ensures unchanged { OnErr result (self.new ≡ self.old) }
-        ensures within { length (written self.new) ≤ room }
+        ensures within { length (written self.new) ≤ capacity }
     {
         if MOST * 8 < self.len * 8 + self.used as usize + n as usize {
             return Err(NoRoom);
@@ -69,12 +70,13 @@ impl BitWriter {
         Ok(())
     }
 
-    /// Appends a number below n in its encoding ns(n). Returns `NoRoom` and leaves the writer unchanged if the bits would exceed 2,040 bytes.
+    /// Appends an ns(n) field: `value`, which is below n. Returns `NoRoom` and leaves the writer unchanged if the written bits would then need more
+    /// than 2,040 bytes.
     pub fn put_ns(&mut self, n: u32, value: u32) -> Result<(), NoRoom>
         requires { value < n }
         ensures put { Puts result self.old self.new (non_symmetric_bits n value) }
         ensures unchanged { OnErr result (self.new ≡ self.old) }
-        ensures within { length (written self.new) ≤ room }
+        ensures within { length (written self.new) ≤ capacity }
     {
         let digits = digit_count(n);
         let short_forms = short_form_count(n);
@@ -85,12 +87,12 @@ impl BitWriter {
         }
     }
 
-    /// Appends bits that a reader has read. `from` is a copy of the reader before it read them, and `to` is a copy of the reader after that.
-    /// Returns `NoRoom` and leaves the writer unchanged if the bits would exceed 2,040 bytes.
+    /// Appends bits that a reader has read. `from` is a copy of the reader before it read these bits, and `to` is a copy after it read them.
+    /// Returns `NoRoom` and leaves the writer unchanged if the written bits would then need more than 2,040 bytes.
     pub fn put_read(&mut self, from: BitReader<'_>, to: BitReader<'_>) -> Result<(), NoRoom>
         ensures put { Puts result self.old self.new (bits_between from.entry to.entry) }
         ensures unchanged { OnErr result (self.new ≡ self.old) }
-        ensures within { length (written self.new) ≤ room }
+        ensures within { length (written self.new) ≤ capacity }
     {
         let count = from.count().saturating_sub(to.count());
         let free = MOST * 8 - (self.len * 8 + self.used as usize);
@@ -101,7 +103,7 @@ impl BitWriter {
         Ok(())
     }
 
-    /// Returns the written bits as bytes. Zero bits fill up the last byte.
+    /// Returns the written bits as bytes. The last byte is padded with zero bits.
     pub fn bytes(&self) -> &[u8]
         ensures { IsPadded (written self.now) result.now }
     {
@@ -112,10 +114,10 @@ impl BitWriter {
         }
     }
 
-    /// Appends the first `count` remaining bits of a reader.
+    /// Appends the next `count` bits of a reader.
     fn put_front(&mut self, from: BitReader<'_>, count: usize)
         requires enough { count ≤ length (bits_left from) }
-        requires fit { length (written self.old) + count ≤ room }
+        requires fit { length (written self.old) + count ≤ capacity }
         ensures { written self.new ≡ written self.old ++ take count (bits_left from.entry) }
     {
         let mut bits = from;
@@ -128,9 +130,9 @@ impl BitWriter {
         }
     }
 
-    /// Appends the lowest n bits of `value`, byte by byte. Each byte gets the bits that still fit into it.
+    /// Appends the lowest n bits of `value`, byte by byte. Each byte gets as many bits as still fit into it.
     fn put_bits(&mut self, n: u8, value: u32)
-        requires { length (written self.old) + n ≤ room }
+        requires { length (written self.old) + n ≤ capacity }
         ensures { written self.new ≡ written self.old ++ bits_of n value }
     {
         let mut missing = n;
@@ -141,12 +143,12 @@ impl BitWriter {
         }
     }
 
-    /// Appends the lowest `count` bits of `value`. All of them fit into the byte after the full ones.
+    /// Appends the lowest `count` bits of `value`. All of them fit into the byte after the full bytes.
     fn put_in_byte(&mut self, count: u8, value: u32)
         requires some { 1 ≤ count }
         requires in_byte { self.old.used + count ≤ 8 }
         requires small { value < 2 ^ count }
-        requires room { length (written self.old) + count ≤ room }
+        requires capacity { length (written self.old) + count ≤ capacity }
         ensures { written self.new ≡ written self.old ++ bits_of count value }
     {
         let used = self.used + count;

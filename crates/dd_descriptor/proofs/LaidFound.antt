@@ -177,14 +177,14 @@ went_laid more each bits (Some d, rest) x next e =
       spelled = then_laid (laid_distance next.size d) _ _ _ next.spelled all.spelled ∙ sym (append_assoc (laid_distance next.size d) (laid_distances all.sizes b.0.0) b.0.1);
     })
 
-until_laid : (room before : ℕ) (bits : List Bool) (x : List ℕ × List Bool) → until_at (λ (before : ℕ). next_distance_at) faults.References room before bits ≡ Ok x → AreDistances bits x
+until_laid : (capacity before : ℕ) (bits : List Bool) (x : List ℕ × List Bool) → until_at (λ (before : ℕ). next_distance_at) faults.References capacity before bits ≡ Ok x → AreDistances bits x
 unfolding until_at
 until_laid zero before bits x e =
     let a = bind_ok (next_distance_at bits) (going_on (λ d rest. Err faults.References)) x e in
     ended_laid bits a.0 x (next_laid bits a.0 a.1) a.2
-until_laid (suc room) before bits x e =
-    let a = bind_ok (next_distance_at bits) (going_on (until_at (λ (before : ℕ). next_distance_at) faults.References room)) x e in
-    went_laid (until_at (λ (before : ℕ). next_distance_at) faults.References room) (λ d rest y h. until_laid room d rest y h) bits a.0 x (next_laid bits a.0 a.1) a.2
+until_laid (suc capacity) before bits x e =
+    let a = bind_ok (next_distance_at bits) (going_on (until_at (λ (before : ℕ). next_distance_at) faults.References capacity)) x e in
+    went_laid (until_at (λ (before : ℕ). next_distance_at) faults.References capacity) (λ d rest y h. until_laid capacity d rest y h) bits a.0 x (next_laid bits a.0 a.1) a.2
 
 distances_laid : (bits : List Bool) (x : List ℕ × List Bool) → distances_at bits ≡ Ok x → AreDistances bits x
 unfolding distances_at

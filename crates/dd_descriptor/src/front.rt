@@ -1,4 +1,4 @@
-//! Reads the fields of a descriptor that need no structure.
+//! Reads those fields of a descriptor that can be read without a structure.
 
 ghost use Rattle.std.specs.Prelude.{◌≡◌, ◌<◌, ◌↔◌, Ok, Option, IsErr, IfOk, length};
 ghost use Rattle.dd_structure.specs.TemplateStructure.{TemplateStructure};

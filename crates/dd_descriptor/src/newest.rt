@@ -13,9 +13,9 @@ use crate::reading::read_into;
 use dd_structure::Structure;
 use std::marker::Model;
 
-/// Reads descriptors one after another, and keeps the newest. Contracts see only the newest descriptor. A structure is long, so descriptors
-/// that carry one are read into one buffer, and all others into a second buffer. Most descriptors carry no structure. Reading such a descriptor
-/// doesn't clear the first buffer, and the next structure overwrites the one in it.
+/// Reads descriptors one after another, and keeps the newest. Contracts see only the newest descriptor. There are two buffers, because a structure
+/// is long. Descriptors that carry a structure are read into the first buffer, and all others into the second. Most descriptors carry no structure.
+/// Reading one of these leaves the first buffer unchanged. The next descriptor with a structure overwrites the first buffer.
 #[derive(Debug, Drop)]
 pub struct NewestDescriptor {
     carrying: Descriptor,
@@ -34,7 +34,7 @@ impl Model for NewestDescriptor {
 }
 
 impl NewestDescriptor {
-    /// A value that has read nothing yet. Its newest descriptor is blank.
+    /// Returns a `NewestDescriptor` that has read nothing yet. Its newest descriptor is blank.
     pub fn new() -> NewestDescriptor
         ensures { IsBlank result }
     {
@@ -61,7 +61,7 @@ impl NewestDescriptor {
         }
     }
 
-    /// The newest descriptor.
+    /// Returns the newest descriptor.
     pub fn get(&self) -> &Descriptor
         ensures { result.now ≡ self.now }
     {

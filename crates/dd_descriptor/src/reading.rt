@@ -25,7 +25,7 @@ use dd_bits::BitReader;
 use dd_structure::Structure;
 use sfu_base::Dti;
 
-/// Reads the carried structure into `out`, which is overwritten. Out of line: few descriptors carry one.
+/// Reads the carried structure into `out`, which is overwritten. Out of line: few descriptors carry a structure.
 #[tactic(auto, unfolding(crate::specs::Reading::carried_at, dd_structure::specs::Reading::some_structure_at))]
 #[inline(never)]
 fn put_structure(bits: &mut BitReader<'_>, out: &mut Option<Structure>) -> Result<(), DdFault>
@@ -46,7 +46,7 @@ fn clear(out: &mut Option<Structure>)
     *out = None;
 }
 
-/// If the descriptor carries a structure, reads it into `out`, which is overwritten. Without a structure, `out` becomes `None`.
+/// If the descriptor carries a structure, reads it into `out`, which is overwritten. If it carries none, `out` becomes `None`.
 #[tactic(auto, unfolding(crate::specs::Reading::carried_at))]
 #[inline(always)]
 pub fn put_carried(
@@ -66,7 +66,8 @@ pub fn put_carried(
     Ok(())
 }
 
-/// Returns the active decode targets: the mask that is read, or all targets if there is a structure but no mask, or `None` if there is neither.
+/// Returns the mask of active decode targets. If the descriptor has a mask, reads and returns it. If the descriptor carries a structure but no
+/// mask, returns the mask in which all decode targets are active. Otherwise returns `None`.
 #[tactic(auto, unfolding(crate::specs::Reading::mask_at))]
 #[inline(always)]
 pub fn mask(
@@ -111,7 +112,7 @@ fn body(
     Ok((mask, frame))
 }
 
-/// The carried structure or, if there is none, the structure in force.
+/// Returns the carried structure. If there is none, returns the structure in force.
 #[inline(always)]
 fn held<'a>(carried: &'a Option<Structure>, force: Option<&'a Structure>) -> Option<&'a Structure>
     ensures { option_copied result ≡ holding carried.now (option_copied force.entry) }
@@ -122,7 +123,7 @@ fn held<'a>(carried: &'a Option<Structure>, force: Option<&'a Structure>) -> Opt
     }
 }
 
-/// Does what `body` does, with the carried structure or, if there is none, the one in force.
+/// Does what `body` does, with the carried structure. If there is none, uses the structure in force.
 #[tactic(auto, unfolding(crate::specs::Reading::held_body_at))]
 #[inline(always)]
 fn held_body(
@@ -158,7 +159,7 @@ fn held_body(
     }
 }
 
-/// A lemma, which does nothing at run time: a structure in force is well formed.
+/// A lemma: a structure in force is well formed. The function does nothing at run time.
 pub fn lemma_force_is_well_formed(force: Option<&Structure>)
     ensures { IfSome (option_copied force.entry) IsWellFormed }
 {
@@ -167,7 +168,7 @@ pub fn lemma_force_is_well_formed(force: Option<&Structure>)
     }
 }
 
-/// Reads each field into `out`, which is overwritten.
+/// Reads each field of a descriptor into `out`, which is overwritten.
 #[tactic(auto, unfolding(crate::specs::Reading::descriptor_at))]
 #[inline(always)]
 fn fill_fields(bytes: &[u8], force: Option<&Structure>, out: &mut Descriptor) -> Result<(), DdFault>
@@ -203,7 +204,7 @@ fn fill_fields(bytes: &[u8], force: Option<&Structure>, out: &mut Descriptor) ->
     Ok(())
 }
 
-/// Does what `fill_fields` does, for descriptors with flags. Out of line, so that it doesn't slow down the code for descriptors without flags.
+/// Does what `fill_fields` does. Called for descriptors with flags. Out of line, to keep the code for descriptors without flags fast.
 #[inline(never)]
 fn fill_flagged(
     bytes: &[u8],
@@ -216,7 +217,7 @@ fn fill_flagged(
     fill_fields(bytes, force, out)
 }
 
-/// Does what `fill_fields` does, for any descriptor. Most have three bytes.
+/// Does what `fill_fields` does. Descriptors of three bytes have a code path of their own, because most descriptors have three bytes.
 #[inline(always)]
 fn fill(bytes: &[u8], force: Option<&Structure>, out: &mut Descriptor) -> Result<(), DdFault>
     ensures read { AnswersIn (option_copied force.entry) out.new result (descriptor_at bytes.now (option_copied force.entry)) }
@@ -230,8 +231,8 @@ fn fill(bytes: &[u8], force: Option<&Structure>, out: &mut Descriptor) -> Result
 }
 
 /// Reads a descriptor (RTP Payload Format For AV1 v1.0, Appendix A) into `out`, which is overwritten. A descriptor that carries no structure is
-/// read with `force`, the structure in force. Bits after the frame's definition are ignored. The error is the first fault from left to right.
-/// After an error `out` may have any contents. A descriptor that was read can be written.
+/// read with `force`, the structure in force. Bits after the frame's definition are ignored. If there are several faults, the first one from the
+/// left is returned. After an error, `out` may have any contents. A descriptor that was read without an error can be written.
 #[inline(always)]
 pub fn read_into(
     bytes: &[u8],
@@ -246,7 +247,8 @@ pub fn read_into(
     fill(bytes, force, out)
 }
 
-/// Like [`read_into`], but returns a new descriptor. A descriptor takes 5 KB, so reusing one costs less if many are read.
+/// Like [`read_into`], but returns a new descriptor. A descriptor takes 5 KB. To read many descriptors, it costs less to reuse one with
+/// [`read_into`].
 pub fn read(bytes: &[u8], force: Option<&Structure>) -> Result<Descriptor, DdFault>
     ensures read { Answers (option_copied force.entry) result (descriptor_at bytes.now (option_copied force.entry)) }
     ensures writable { IfOk result (λ d. IsWritableBy (holding d.structure (option_copied force.entry)) (content_of (option_copied force.entry) d)) }

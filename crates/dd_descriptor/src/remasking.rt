@@ -24,7 +24,7 @@ use dd_bits::{BitReader, BitWriter, NoRoom};
 use dd_structure::Structure;
 use sfu_base::{Dti, NoFit, PacketBuf};
 
-/// The bits of a descriptor between two positions of a reader.
+/// Some bits of a descriptor, between the two reader positions `from` and `to`.
 #[derive(Clone, Copy)]
 pub struct Part<'a> {
     pub from: BitReader<'a>,
@@ -65,7 +65,7 @@ fn body_parts<'a>(
     Ok((structure.target_count(), Part { from, to: *bits }))
 }
 
-/// Does what `body_parts` does, with the carried structure or, if there is none, the one in force.
+/// Does what `body_parts` does, with the carried structure. If there is none, uses the structure in force.
 #[tactic(auto, unfolding(crate::specs::Parts::held_parts_at))]
 fn held_parts<'a>(
     bits: &mut BitReader<'a>,
@@ -86,7 +86,7 @@ fn held_parts<'a>(
     }
 }
 
-/// Finds the parts in the bytes of a descriptor. A structure that the descriptor carries is read into `carried`.
+/// Finds these parts of a descriptor in its bytes. A structure that the descriptor carries is read into `carried`.
 #[tactic(auto, unfolding(crate::specs::Parts::parts_at))]
 fn parts_in<'a>(
     bytes: &'a [u8],
@@ -114,7 +114,7 @@ fn parts_in<'a>(
     })
 }
 
-/// The lowest `count` bits of a mask, or all bits if `count` is 32 or more.
+/// Returns the lowest `count` bits of a mask. If `count` is 32 or more, returns all bits.
 fn lowest(mask: u32, count: u8) -> u32
     ensures { result ≡ mask % 2 ^ count }
 {
@@ -125,7 +125,7 @@ fn lowest(mask: u32, count: u8) -> u32
     }
 }
 
-/// Appends the parts, with `mask` as the mask.
+/// Appends a descriptor made of these parts, with `mask` as its mask.
 fn put_parts(out: &mut BitWriter, parts: &Parts<'_>, mask: u32) -> Result<(), NoRoom>
     ensures { Puts result out.old out.new (with_mask (parts_of parts.now) mask) }
 {
@@ -148,50 +148,50 @@ fn put_mask(out: &mut BitWriter, targets: u8, mask: u32) -> Result<(), NoRoom>
     out.put(targets, lowest(mask, targets))
 }
 
-/// The working memory of [`remask`], which takes 7 KB. Its contents don't matter. If it is reused, it needn't be cleared for each call.
+/// Working memory of 7 KB for [`remask_lowest`]. Its contents don't matter. It can be reused for many calls, and needn't be cleared between them.
 #[derive(Debug, Drop)]
-pub struct RemaskRoom {
+pub struct RemaskBuf {
     structure: Option<Structure>,
     bits: BitWriter,
 }
 
-impl RemaskRoom {
-    /// Working memory for any descriptor.
-    pub fn new() -> RemaskRoom {
-        RemaskRoom {
+impl RemaskBuf {
+    /// Returns working memory that can be used for any descriptor.
+    pub fn new() -> RemaskBuf {
+        RemaskBuf {
             structure: None,
             bits: BitWriter::new(),
         }
     }
 }
 
-impl Default for RemaskRoom {
-    fn default() -> RemaskRoom {
-        RemaskRoom::new()
+impl Default for RemaskBuf {
+    fn default() -> RemaskBuf {
+        RemaskBuf::new()
     }
 }
 
-/// Like [`remask`], but for any bytes and any mask. Of the mask, only the lowest bits are written, one for each decode target. Returns `NoFit`
-/// also if the bytes can't be read with the structure in force. After `NoFit` `out` is unchanged. The bytes are read once.
+/// Like [`remask`], but for any bytes and any mask. Only the lowest bits of the mask are written, one for each decode target. Bytes that can't be
+/// read with the structure in force also give `NoFit`. After `NoFit`, `out` is unchanged. The bytes are read once.
 pub fn remask_lowest(
     bytes: &[u8],
     force: Option<&Structure>,
     mask: u32,
-    room: &mut RemaskRoom,
+    buf: &mut RemaskBuf,
     out: &mut PacketBuf,
 ) -> Result<(), NoFit>
     ensures ok { OnOk result (MakesBytes (parts_at bytes.now (option_copied force.entry)) mask out.new) }
     ensures err { OnErr result (MakesNone (parts_at bytes.now (option_copied force.entry)) mask) }
     ensures unchanged { OnErr result (out.new ≡ out.old) }
 {
-    let Ok(parts) = parts_in(bytes, force, &mut room.structure) else {
+    let Ok(parts) = parts_in(bytes, force, &mut buf.structure) else {
         return Err(NoFit);
     };
-    room.bits.clear();
-    match put_parts(&mut room.bits, &parts, mask) {
+    buf.bits.clear();
+    match put_parts(&mut buf.bits, &parts, mask) {
         Err(_) => Err(NoFit),
         Ok(()) => {
-            let bytes = room.bits.bytes();
+            let bytes = buf.bits.bytes();
             if bytes.len() > MOST {
                 return Err(NoFit);
             }
@@ -201,11 +201,12 @@ pub fn remask_lowest(
     }
 }
 
-/// Replaces the contents of `out` with the same descriptor, but with this mask. Bit i of the mask (bit 0 is the lowest) says whether decode
-/// target i is active. All other parts are copied bit by bit. Bits after the frame's definition are dropped, and zeros fill up the last byte.
-/// Returns `NoFit` and leaves `out` unchanged if there would be more than 255 bytes.
+/// Replaces the contents of `out` with a copy of the descriptor in `bytes`. The copy has `mask` as its mask. Bit i of the mask says whether decode
+/// target i is active. Bit 0 is the lowest bit. All parts except the mask are copied bit by bit. Bits after the frame's definition are dropped. The
+/// last byte is padded with zero bits. Returns `NoFit` and leaves `out` unchanged if the result would be longer than 255 bytes.
 ///
-/// The bytes must be a descriptor that can be read with the structure in force. In the mask, no bit after the last decode target may be set.
+/// The bytes must be a descriptor that can be read with the structure in force. If there are n decode targets, only the lowest n bits of the mask
+/// may be set.
 pub fn remask(
     bytes: &[u8],
     force: Option<&Structure>,
@@ -220,5 +221,5 @@ pub fn remask(
     ensures unchanged { OnErr result (out.new ≡ out.old) }
 {
     lemma_force_is_well_formed(force);
-    remask_lowest(bytes, force, mask, &mut RemaskRoom::new(), out)
+    remask_lowest(bytes, force, mask, &mut RemaskBuf::new(), out)
 }

@@ -1,4 +1,4 @@
-//! Laws of the definitions.
+//! Laws about the definitions in this crate.
 
 ghost use Rattle.std.specs.Prelude.{◌≡◌, ◌↔◌, true};
 ghost use Rattle.forwarding_model.specs.frames.Reading.{IsLayout};
@@ -6,12 +6,12 @@ ghost use Rattle.dd_structure.specs.Spelling.{IsWellFormed};
 ghost use Rattle.dd_structure.specs.TemplateStructure.{TemplateStructure};
 ghost use Rattle.dd_layout.specs.Layouts.{is_same_structure, layout_of};
 
-/// A law: a well-formed structure has at most 32 decode targets and 32 chains. If it has chains, each target is protected by one of them.
+/// A well-formed structure has at most 32 decode targets and at most 32 chains. If it has chains, each decode target is protected by one of them.
 pub fn carried_structures_have_layouts()
     ensures { (s : TemplateStructure) → IsWellFormed s → IsLayout (layout_of s) }
 {}
 
-/// A law: `is_same_structure`, which compares two structures field by field, is true exactly when they are equal.
+/// `is_same_structure` compares two structures field by field. It is true exactly when the structures are equal.
 pub fn same_structures_are_equal()
     ensures { (a b : TemplateStructure) → (is_same_structure a b ≡ true) ↔ (a ≡ b) }
 {}

@@ -1,5 +1,6 @@
-//! The parts of a template structure and of a descriptor that the forwarder uses (RTP Payload Format For AV1 v1.0, Appendix A). These are the layout of
-//! decode targets and chains, and a frame's own fields, in arrays of fixed length. This crate has only definitions and their laws, and no code that runs.
+//! The forwarder uses only some parts of template structures and of descriptors (RTP Payload Format For AV1 v1.0, Appendix A). From a structure it
+//! uses the layout of decode targets and chains. From a descriptor it uses the fields that describe a frame. This crate defines these parts, with
+//! arrays of fixed length, and laws about the definitions. It has no code that runs.
 #![tactic(auto)]
 
 mod laws;

@@ -53,7 +53,7 @@ impl Structure {
         self.columns.layers[template as usize]
     }
 
-    /// A template's indication for each decode target.
+    /// A template's decode target indications, one for each decode target.
     pub fn indications(&self, template: u8) -> &[Dti]
         requires { template < length self.now.templates }
         ensures value { result.now ≡ (template_at self.now template).indications }
@@ -64,8 +64,8 @@ impl Structure {
         &columns.indications[template as usize][..columns.target_count as usize]
     }
 
-    /// A template's indications, in the first entries of an array, which is copied faster than a slice. Entries after the last decode target
-    /// have no meaning.
+    /// An array that begins with a template's indications, one for each decode target. Its other entries have no meaning. An array is copied faster
+    /// than a slice.
     pub fn indication_row(&self, template: u8) -> &[Dti; 32]
         requires { template < length self.now.templates }
         ensures value { take self.now.target_count result.now ≡ (template_at self.now template).indications }
@@ -83,8 +83,7 @@ impl Structure {
         &distances.items[..distances.count as usize]
     }
 
-    /// The number of frame differences of a template, at most 16, and an array that begins with them. The other entries of the array have no
-    /// meaning.
+    /// How many frame differences a template has, at most 16, and an array that begins with these differences. Its other entries have no meaning.
     pub fn distance_row(&self, template: u8) -> (u8, &[u8; 16])
         requires { template < length self.now.templates }
         ensures value { take result.0 result.1.now ≡ (template_at self.now template).distances }
@@ -94,8 +93,8 @@ impl Structure {
         (distances.count, &distances.items)
     }
 
-    /// A template's links. For each chain, this is the distance in frame numbers back to the chain's previous frame, 1 to 15, or 0 if no previous
-    /// frame is needed.
+    /// A template's links, one for each chain. A link is the distance in frame numbers back to the chain's previous frame, 1 to 15. It is 0 if no
+    /// previous frame is needed.
     pub fn links(&self, template: u8) -> &[u8]
         requires { template < length self.now.templates }
         ensures value { result.now ≡ (template_at self.now template).links }
@@ -106,7 +105,7 @@ impl Structure {
         &columns.links[template as usize][..columns.chain_count as usize]
     }
 
-    /// A template's links, in the first entries of an array. Entries after the last chain have no meaning.
+    /// An array that begins with a template's links, one for each chain. Its other entries have no meaning.
     pub fn link_row(&self, template: u8) -> &[u8; 32]
         requires { template < length self.now.templates }
         ensures value { take self.now.chain_count result.now ≡ (template_at self.now template).links }
@@ -114,7 +113,7 @@ impl Structure {
         &self.columns.links[template as usize]
     }
 
-    /// For each decode target, the index of the chain that protects it. Empty if there are no chains.
+    /// For each decode target, the index of the chain that protects it. The slice is empty if there are no chains.
     pub fn guards(&self) -> &[u8]
         ensures value { result.now ≡ self.now.guards }
         ensures few { length result.now ≤ 32 }
@@ -123,7 +122,7 @@ impl Structure {
         &columns.guards[..guarded_targets(columns.chain_count, columns.target_count) as usize]
     }
 
-    /// The width and height of each spatial id in pixels, from id 0 to the greatest. Empty if the structure has no resolutions.
+    /// The width and height in pixels of each spatial id, from id 0 to the greatest. The slice is empty if the structure has no resolutions.
     pub fn resolutions(&self) -> &[(u32, u32)]
         ensures { result.now ≡ self.now.resolutions }
     {

@@ -30,7 +30,7 @@ pub const BLANK: Columns = Columns {
     resolutions: NO_RESOLUTIONS,
 };
 
-/// Makes columns valid again after a fault left them partly read. The entries that are used become those of [`BLANK`], and the others stay.
+/// Makes columns valid again after a fault ended a read early. The used entries become those of [`BLANK`]. The other entries stay.
 #[inline(never)]
 pub fn mend(out: &mut Columns)
     ensures { IsWhole out.new }

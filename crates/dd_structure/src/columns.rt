@@ -5,7 +5,7 @@ ghost use Rattle.std.specs.Prelude.{◌≤◌};
 use crate::layer::Layer;
 use sfu_base::Dti;
 
-/// A template's distances to the frames that it refers to. Only the first `count` items are used.
+/// A template's frame differences: the distances to the referenced frames. Only the first `count` items are used.
 #[derive(Clone, Copy, Debug)]
 pub struct Distances {
     pub count: u8,
@@ -13,7 +13,7 @@ pub struct Distances {
     ghost within: { count ≤ 16 },
 }
 
-/// The width and height of each spatial id in pixels, from id 0 on. `count` is 0 if the structure has no resolutions.
+/// The width and height in pixels of each spatial id, from id 0 on. `count` is 0 if the structure has no resolutions.
 #[derive(Clone, Copy, Debug)]
 pub struct Resolutions {
     pub count: u8,
@@ -21,8 +21,8 @@ pub struct Resolutions {
     ghost within: { count ≤ 4 },
 }
 
-/// The fields of a structure. Only the first entries of each array are used: `template_count` entries if the index is a template,
-/// `target_count` if it is a decode target, and `chain_count` if it is a chain.
+/// The fields of a structure. Only the first entries of each array are used: `template_count` of an array indexed by template, `target_count` of an
+/// array indexed by decode target, and `chain_count` of an array indexed by chain.
 #[derive(Clone, Copy, Debug)]
 pub struct Columns {
     pub offset: u8,

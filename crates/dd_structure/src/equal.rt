@@ -32,7 +32,7 @@ fn same_resolutions(a: &[(u32, u32)], b: &[(u32, u32)]) -> bool
     a == b
 }
 
-/// Whether rows at the same index have the same first `targets` entries.
+/// Whether each row of `a` has the same first `targets` entries as the row of `b` with the same index.
 fn same_indication_tables(a: &[[Dti; 32]], b: &[[Dti; 32]], targets: usize) -> bool
     requires targets { targets ≤ 32 }
     requires len { length a.now ≡ length b.now }
@@ -60,7 +60,7 @@ fn same_distance_tables(a: &[Distances], b: &[Distances]) -> bool
     true
 }
 
-/// Whether rows at the same index have the same first `chains` entries.
+/// Whether each row of `a` has the same first `chains` entries as the row of `b` with the same index.
 fn same_link_tables(a: &[[u8; 32]], b: &[[u8; 32]], chains: usize) -> bool
     requires chains { chains ≤ 32 }
     requires len { length a.now ≡ length b.now }
@@ -106,7 +106,7 @@ fn same_fields(a: &Columns, b: &Columns) -> bool
         )
 }
 
-/// Whether all used entries are equal.
+/// Whether `a` and `b` have the same counts and the same used entries.
 pub fn same_columns(a: &Columns, b: &Columns) -> bool
     requires a { IsWhole a.now }
     requires b { IsWhole b.now }

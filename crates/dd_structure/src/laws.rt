@@ -1,4 +1,4 @@
-//! Laws: a structure is read back from its bits, whatever bits follow them, and it isn't read from any other bits.
+//! Laws of reading and writing. A structure is read back from its bits, whatever bits follow them. No other bits are read as this structure.
 
 ghost use Rattle.std.specs.Prelude.{◌≡◌, ◌++◌, List, Bool, Ok};
 ghost use Rattle.dd_structure.specs.TemplateStructure.{TemplateStructure};

@@ -1,8 +1,8 @@
 //! Reads the template structure of an AV1 dependency descriptor from bits, and writes it to bits (RTP Payload Format For AV1 v1.0, Appendix A).
 //!
-//! A [`Structure`] has up to 64 templates. Frames refer to a template by its id. A template has a layer, decode target indications, the
-//! distances to referenced frames and, for each chain, the distance to the previous frame. The structure also says which chain protects each
-//! decode target. Nothing here allocates memory.
+//! A [`Structure`] has up to 64 templates. Frames refer to a template by its id. A template has a layer, decode target indications, the distances to
+//! referenced frames and, for each chain, the distance to the chain's previous frame. The structure also says which chain protects each decode
+//! target. Nothing here allocates memory.
 #![tactic(auto)]
 
 mod access;

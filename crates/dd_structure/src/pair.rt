@@ -18,7 +18,7 @@ fn is_present_to(indications: &[Dti], target: u8) -> bool
     }
 }
 
-/// The template's layer if the template is present in the target, otherwise `None`.
+/// The layer of a template if the template is present in the target (`is_there`), otherwise `None`.
 fn layer_if(is_there: bool, layer: Layer) -> Option<Wish>
     ensures { result ≡ layer_where is_there layer }
 {
@@ -32,7 +32,7 @@ fn layer_if(is_there: bool, layer: Layer) -> Option<Wish>
     }
 }
 
-/// The greater of the two spatial ids, and the greater of the two temporal ids.
+/// The greater of the two spatial ids, and the greater of the two temporal ids. If `a` or `b` is `None`, the result is the other one.
 fn join(a: Option<Wish>, b: Option<Wish>) -> Option<Wish>
     ensures { result ≡ joined a b }
 {

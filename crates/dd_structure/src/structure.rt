@@ -31,7 +31,7 @@ ghost use Rattle.dd_bits.specs.Reader.{bits_left};
 ghost use Rattle.dd_bits.specs.Sequences.{Gives};
 ghost use Rattle.dd_structure.specs.Reading.{some_structure_at};
 
-/// Does what [`Structure::read_into`] does if `out` has no structure: puts a blank one into `out`, then overwrites it by reading.
+/// The case of [`Structure::read_into`] in which `out` is `None`. Puts a blank structure into `out`, and then reads into this structure.
 #[tactic(auto, unfolding(crate::specs::Reading::some_structure_at))]
 #[inline(never)]
 fn read_anew(bits: &mut BitReader<'_>, out: &mut Option<Structure>) -> Result<(), StructureFault>
@@ -53,7 +53,7 @@ impl Structure {
     ghost use Rattle.std.specs.Prelude.{◌≡◌, ◌≤◌, ◌↔◌, None, IsTrue, OnErr, length};
     ghost use Rattle.dd_bits.specs.Reader.{bits_left};
     ghost use Rattle.dd_bits.specs.Sequences.{Gives};
-    ghost use Rattle.dd_bits.specs.Writer.{room, written, Puts};
+    ghost use Rattle.dd_bits.specs.Writer.{capacity, written, Puts};
     ghost use Rattle.dd_structure.specs.Reading.{structure_at, some_structure_at};
     ghost use Rattle.dd_structure.specs.Spelling.{structure_bits, IsWellFormed};
 
@@ -67,8 +67,8 @@ impl Structure {
         Ok(Structure { columns })
     }
 
-    /// Like [`Structure::read`], but replaces the contents of `out`. After a fault `out` is `None`. A structure takes 5.4 KB. If `out` already
-    /// has one, the new structure overwrites it, and nothing is cleared or moved.
+    /// Like [`Structure::read`], but replaces the contents of `out`. After a fault `out` is `None`. A structure takes 5.4 KB. If `out` already has a
+    /// structure, the new one overwrites it in place, and nothing is cleared or moved.
     #[tactic(auto, unfolding(crate::specs::Reading::some_structure_at))]
     pub fn read_into(
         bits: &mut BitReader<'_>,
@@ -90,11 +90,11 @@ impl Structure {
         }
     }
 
-    /// Appends the bits of the structure. Returns `NoRoom` and leaves the writer unchanged if the bits would exceed 2,040 bytes.
+    /// Appends the bits of the structure. If the writer would then have more than 2,040 bytes, returns `NoRoom` and leaves the writer unchanged.
     pub fn write(&self, out: &mut BitWriter) -> Result<(), NoRoom>
         ensures put { Puts result out.old out.new (structure_bits self.now) }
         ensures unchanged { OnErr result (out.new ≡ out.old) }
-        ensures within { length (written out.new) ≤ room }
+        ensures within { length (written out.new) ≤ capacity }
     {
         let before = *out;
         match put_columns(out, &self.columns) {
@@ -122,7 +122,8 @@ impl Structure {
         }
     }
 
-    /// A lemma, which does nothing at run time: each number of a structure is in the range of its field, and its counts agree with one another.
+    /// A lemma: each number of a structure is in the range of its field, and the counts agree with the lengths of the lists. The function does
+    /// nothing at run time.
     pub fn is_well_formed(&self)
         ensures { IsWellFormed self.now }
     {

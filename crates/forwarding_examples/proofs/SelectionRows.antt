@@ -1,6 +1,6 @@
 -- The rows of the timelines for single rules hold by computation.
 use Rattle.std.proofs.Common.{refl}
-use Rattle.forwarding_examples.specs.SelectionRows.{PassingOpensNothing, NewEpochGivesTheReason, WithheldFramesBeginEpochs, TemporalWishIsKept, DiscardableFramesPass, DiscardableFramesOpenNothing, FourthBitIsTargetThree, AbsenceComesFirst, NoTargetComesFirst, GreatestBelowIsTold, OldFramesKeepTheirCauses, KeyFramesArentForgotten, LowerMarkersAreKept, FirstNumbers, SpatialComesFirst, FirstOfEquals, BrokenChainPath, GreaterLayersFirst}
+use Rattle.forwarding_examples.specs.SelectionRows.{PassingOpensNothing, NewEpochGivesTheReason, WithheldFramesBeginEpochs, TemporalWishIsKept, DiscardableFramesPass, DiscardableFramesOpenNothing, FourthBitIsTargetThree, AbsenceComesFirst, NoTargetComesFirst, GreatestBelowIsReported, OldFramesKeepTheirCauses, KeyFramesArentForgotten, LowerMarkersAreKept, FirstNumbers, SpatialComesFirst, FirstOfEquals, BrokenChainPath, GreaterLayersFirst}
 
 pub passing_opens_nothing : PassingOpensNothing
 passing_opens_nothing = refl
@@ -29,8 +29,8 @@ absence_comes_first = refl
 pub no_target_comes_first : NoTargetComesFirst
 no_target_comes_first = refl
 
-pub greatest_below_is_told : GreatestBelowIsTold
-greatest_below_is_told = refl
+pub greatest_below_is_reported : GreatestBelowIsReported
+greatest_below_is_reported = refl
 
 pub old_frames_keep_their_causes : OldFramesKeepTheirCauses
 old_frames_keep_their_causes = refl

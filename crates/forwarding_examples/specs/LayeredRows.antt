@@ -36,11 +36,11 @@ abbrev pub causes_in : List (Event ℕ) → List ℕ → List Verdict
 causes_in events numbers = map (cause subscriber.wish events) numbers
 
 -- the number and the marker of each forwarded packet
-abbrev pub Told : Type 0
-Told = List (ℕ × Bool)
+abbrev pub Summary : Type 0
+Summary = List (ℕ × Bool)
 
-abbrev pub told : List (Event ℕ) → Told
-told events = map (λ (p : Packet). (p.sequence_number, p.marker)) (outgoing send_marked subscriber events)
+abbrev pub summary : List (Event ℕ) → Summary
+summary events = map (λ (p : Packet). (p.sequence_number, p.marker)) (outgoing send_marked subscriber events)
 
 -- ---- a broken chain: frame 2 is lost, and frame 3, which refers to frame 1 by a distance of its own, has a chain link to frame 2
 
@@ -51,7 +51,7 @@ abbrev pub BrokenChain : Type 0
 BrokenChain = causes_in broken_chain (1 ∷ 2 ∷ 3 ∷ 4 ∷ 5 ∷ []) ≡ Passed ∷ Hole (Some 1) 3 ∷ Link 3 2 ∷ Reference 3 ∷ Passed ∷ []
 
 abbrev pub BrokenChainSent : Type 0
-BrokenChainSent = told broken_chain ≡ (10, true) ∷ (11, true) ∷ []
+BrokenChainSent = summary broken_chain ≡ (10, true) ∷ (11, true) ∷ []
 
 -- ---- the upper layer, frame 2, is lost: frame 3 opens the lower target, and ends the picture for the subscriber
 
@@ -64,13 +64,13 @@ abbrev pub UpperLost : Type 0
 UpperLost = causes_in upper_lost (3 ∷ 4 ∷ 5 ∷ 6 ∷ []) ≡ Passed ∷ NotOfTarget (Some 1) ∷ Passed ∷ Passed ∷ []
 
 abbrev pub UpperLostSent : Type 0
-UpperLostSent = told upper_lost ≡ (10, false) ∷ (11, true) ∷ (12, false) ∷ (13, true) ∷ []
+UpperLostSent = summary upper_lost ≡ (10, false) ∷ (11, true) ∷ (12, false) ∷ (13, true) ∷ []
 
 -- ---- the mask of frame 3 lacks the upper target, so frame 3 ends the picture; no frame has the number 4
 
 abbrev pub MaskSent : Type 0
 MaskSent =
-    told (happened (frame_of false 5 0 0 1 [] ∷ frame_of false 3 0 3 1 [] ∷ frame_of true 2 0 0 2 [] ∷ frame_of false 1 1 0 0 [] ∷ []))
+    summary (happened (frame_of false 5 0 0 1 [] ∷ frame_of false 3 0 3 1 [] ∷ frame_of true 2 0 0 2 [] ∷ frame_of false 1 1 0 0 [] ∷ []))
     ≡ (10, false) ∷ (11, true) ∷ (12, true) ∷ (13, true) ∷ []
 
 -- ---- the wish is lowered after frame 2 and raised after frame 4; frame 6 refers to frame 5 alone, by a distance of its own, and opens the
@@ -96,7 +96,7 @@ WishedCauses =
 
 abbrev pub WishedSent : Type 0
 WishedSent =
-    told (timeline layered_format send_marked 1 (wished (frame_of true 6 0 0 3 (1 ∷ []))))
+    summary (timeline layered_format send_marked 1 (wished (frame_of true 6 0 0 3 (1 ∷ []))))
     ≡ (10, false) ∷ (11, true) ∷ (12, true) ∷ (13, true) ∷ (14, true) ∷ []
 
 abbrev pub WishedUnmet : Type 0
@@ -113,7 +113,7 @@ OtherTemplate =
 
 abbrev pub NewStructureSent : Type 0
 NewStructureSent =
-    told (happened (frame_of false 3 0 0 1 [] ∷ frame_of false 2 2 0 0 [] ∷ frame_of false 1 1 0 0 [] ∷ []))
+    summary (happened (frame_of false 3 0 0 1 [] ∷ frame_of false 2 2 0 0 [] ∷ frame_of false 1 1 0 0 [] ∷ []))
     ≡ (10, false) ∷ (11, true) ∷ (12, true) ∷ []
 
 -- ---- subscriber 2 joins after key frame 1; frame 2, without references, opens nothing for it; key frame 3 begins another epoch, before

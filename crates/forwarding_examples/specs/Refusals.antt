@@ -10,7 +10,7 @@ use Rattle.std.specs.Prelude.{Bool, true, false}
 use Rattle.std.specs.declared.option.Option.TheVariants.{Some}
 use Rattle.forwarding_model.specs.forwarding.Timeline.Event.{PlainPacket, WishChange, Take}
 use Rattle.forwarding_model.specs.forwarding.Standing.{Standing, standing}
-use Rattle.forwarding_model.specs.forwarding.Causes.{IsPath, TellsCauses}
+use Rattle.forwarding_model.specs.forwarding.Causes.{IsPath, HaveCauses}
 use Rattle.forwarding_model.specs.forwarding.Decodable.{IsDecodable}
 use Rattle.forwarding_laws.specs.forwarding.Restart.{IsLinked, IsOpenAndLinked, IsRestart}
 use Rattle.forwarding_model.specs.declared.target.CurrentTarget.TheVariants.{Open, Closed}
@@ -63,13 +63,13 @@ PathsFall = IsPath (step 2 (Reference 3) ∷ step 3 (Unopened 1) ∷ []) → ⊥
 
 -- a step whose verdict isn't the cause of its number
 abbrev pub OthersAreNoCauses : Type 0
-OthersAreNoCauses = TellsCauses (λ n. Passed) (step 3 (Reference 2) ∷ []) → ⊥
+OthersAreNoCauses = HaveCauses (λ n. Passed) (step 3 (Reference 2) ∷ []) → ⊥
 
 abbrev pub LaterOthersAreNoCauses : Type 0
-LaterOthersAreNoCauses = TellsCauses (λ n. Reference 2) (step 3 (Reference 2) ∷ step 2 (Unopened 1) ∷ []) → ⊥
+LaterOthersAreNoCauses = HaveCauses (λ n. Reference 2) (step 3 (Reference 2) ∷ step 2 (Unopened 1) ∷ []) → ⊥
 
 abbrev pub CausesOfOthersDontCount : Type 0
-CausesOfOthersDontCount = TellsCauses (λ n. if n == 3 then Reference 2 else Unopened 1) (step 2 (Reference 2) ∷ []) → ⊥
+CausesOfOthersDontCount = HaveCauses (λ n. if n == 3 then Reference 2 else Unopened 1) (step 2 (Reference 2) ∷ []) → ⊥
 
 -- a frame with this number and these references
 abbrev pub plain_frame : Bool → ℕ → List ℕ → FrameMeaning

@@ -144,8 +144,8 @@ NoTargetComesFirst = cause (layers_wish 1 0) (masked_referring 3 0 Switch (1 ∷
 -- ---- causes
 
 -- a hole names the greatest of the frames below it
-abbrev pub GreatestBelowIsTold : Type 0
-GreatestBelowIsTold =
+abbrev pub GreatestBelowIsReported : Type 0
+GreatestBelowIsReported =
     cause (layers_wish 1 0)
     (one_target 4 1 1 false Switch 0 [] (packet true ∷ []) ∷ one_target 2 1 1 false Switch 0 [] (packet true ∷ []) ∷ key_a 1 1 ∷ []) 3
     ≡ Hole (Some 2) 4

@@ -15,29 +15,29 @@ use Rattle.forwarding_model.specs.frames.Frames.Item.{Missing, Arrived}
 use Rattle.forwarding_model.specs.forwarding.Outgoing.{Subscriber, next_number, oldest_number, outgoing, resent, send_marked, taken}
 use Rattle.forwarding_model.specs.History.{Entry, plain_timeline, timeline}
 use Rattle.forwarding_model.specs.History.Entry.{Released, Joined, Asked}
-use Rattle.forwarding_examples.specs.WorkedPackets.{came, first_rest, frame_rest, joined_as, key_rest, numbers_and_markers, sent_to, told, three_subscribers}
+use Rattle.forwarding_examples.specs.WorkedPackets.{came, first_rest, frame_rest, joined_as, key_rest, numbers_and_markers, sent_to, summary, three_subscribers}
 
 -- ---- frames: the items have the newest first
 
 -- a torn frame doesn't count, though its number is above the next frame's
 abbrev pub TornNumber : Type 0
-TornNumber = told (came (frame_rest 4 3) ∷ Missing ∷ came (first_rest 5) ∷ came (key_rest 1) ∷ []) ≡ (4 ∷ 1 ∷ 3 ∷ []) ∷ (1 ∷ 1 ∷ 3 ∷ []) ∷ []
+TornNumber = summary (came (frame_rest 4 3) ∷ Missing ∷ came (first_rest 5) ∷ came (key_rest 1) ∷ []) ≡ (4 ∷ 1 ∷ 3 ∷ []) ∷ (1 ∷ 1 ∷ 3 ∷ []) ∷ []
 
 -- a frame number that is the newest one's is stale
 abbrev pub EqualNumber : Type 0
-EqualNumber = told (came (frame_rest 4 1) ∷ came (key_rest 4) ∷ []) ≡ (4 ∷ 1 ∷ 3 ∷ []) ∷ []
+EqualNumber = summary (came (frame_rest 4 1) ∷ came (key_rest 4) ∷ []) ≡ (4 ∷ 1 ∷ 3 ∷ []) ∷ []
 
 -- a key frame with a mask of its own
 abbrev pub OwnMask : Type 0
-OwnMask = told (came (frame_rest 2 1) ∷ came (1 ∷ 1 ∷ 1 ∷ 7 ∷ 3 ∷ 0 ∷ 0 ∷ []) ∷ []) ≡ (2 ∷ 1 ∷ 2 ∷ []) ∷ (1 ∷ 1 ∷ 2 ∷ []) ∷ []
+OwnMask = summary (came (frame_rest 2 1) ∷ came (1 ∷ 1 ∷ 1 ∷ 7 ∷ 3 ∷ 0 ∷ 0 ∷ []) ∷ []) ≡ (2 ∷ 1 ∷ 2 ∷ []) ∷ (1 ∷ 1 ∷ 2 ∷ []) ∷ []
 
 -- all of three targets are active
 abbrev pub ThreeTargets : Type 0
-ThreeTargets = told (came (1 ∷ 1 ∷ 1 ∷ 9 ∷ 0 ∷ 0 ∷ 0 ∷ []) ∷ []) ≡ (1 ∷ 1 ∷ 7 ∷ []) ∷ []
+ThreeTargets = summary (came (1 ∷ 1 ∷ 1 ∷ 9 ∷ 0 ∷ 0 ∷ 0 ∷ []) ∷ []) ≡ (1 ∷ 1 ∷ 7 ∷ []) ∷ []
 
 -- a key frame of two packets
 abbrev pub LongKeyFrame : Type 0
-LongKeyFrame = told (came (0 ∷ 1 ∷ 1 ∷ 0 ∷ 0 ∷ 1 ∷ 0 ∷ []) ∷ came (1 ∷ 0 ∷ 1 ∷ 7 ∷ 0 ∷ 0 ∷ 1 ∷ []) ∷ []) ≡ (1 ∷ 2 ∷ 3 ∷ []) ∷ []
+LongKeyFrame = summary (came (0 ∷ 1 ∷ 1 ∷ 0 ∷ 0 ∷ 1 ∷ 0 ∷ []) ∷ came (1 ∷ 0 ∷ 1 ∷ 7 ∷ 0 ∷ 0 ∷ 1 ∷ []) ∷ []) ≡ (1 ∷ 2 ∷ 3 ∷ []) ∷ []
 
 -- for each frame its epoch, the epoch's start, and whether it is a key frame; the frames are a key frame, one that refers to it, and another key frame
 abbrev pub EpochsAndStarts : Type 0
@@ -49,12 +49,12 @@ EpochsAndStarts =
 -- a packet that isn't a start and carries the structure in force makes all targets active again
 abbrev pub StructureInside : Type 0
 StructureInside =
-    told (came (0 ∷ 1 ∷ 2 ∷ 7 ∷ 0 ∷ 1 ∷ 0 ∷ []) ∷ came (1 ∷ 0 ∷ 2 ∷ 0 ∷ 3 ∷ 0 ∷ 1 ∷ 1 ∷ []) ∷ came (key_rest 1) ∷ [])
+    summary (came (0 ∷ 1 ∷ 2 ∷ 7 ∷ 0 ∷ 1 ∷ 0 ∷ []) ∷ came (1 ∷ 0 ∷ 2 ∷ 0 ∷ 3 ∷ 0 ∷ 1 ∷ 1 ∷ []) ∷ came (key_rest 1) ∷ [])
     ≡ (2 ∷ 2 ∷ 3 ∷ []) ∷ (1 ∷ 1 ∷ 3 ∷ []) ∷ []
 
 -- a structure before the first key start makes no frame, and isn't in force for the next packet
 abbrev pub StructureFirst : Type 0
-StructureFirst = told (came (frame_rest 3 1) ∷ came (1 ∷ 1 ∷ 2 ∷ 7 ∷ 0 ∷ 0 ∷ 0 ∷ 1 ∷ []) ∷ []) ≡ []
+StructureFirst = summary (came (frame_rest 3 1) ∷ came (1 ∷ 1 ∷ 2 ∷ 7 ∷ 0 ∷ 0 ∷ 0 ∷ 1 ∷ []) ∷ []) ≡ []
 
 -- ---- the outcome of each mark; the marks have the newest first, and so have the outcomes
 

@@ -46,103 +46,103 @@ abbrev pub came : List ℕ → Item
 came rest = Arrived (sent_as 0 rest)
 
 -- for each frame its number, the number of its packets, and its mask; the newest frame first
-abbrev pub told : List Item → List (List ℕ)
-told items = map (λ (x : Frame ℕ). x.meaning.number ∷ length x.packets ∷ x.meaning.mask ∷ []) (frames_after worked_format items)
+abbrev pub summary : List Item → List (List ℕ)
+summary items = map (λ (x : Frame ℕ). x.meaning.number ∷ length x.packets ∷ x.meaning.mask ∷ []) (frames_after worked_format items)
 
 -- padding may come between the packets of a frame
 abbrev pub PaddedFrame : Type 0
 PaddedFrame =
-    told (came (last_rest 2) ∷ came padding_rest ∷ came (middle_rest 2) ∷ came (first_rest 2) ∷ came padding_rest ∷ came (key_rest 1) ∷ [])
+    summary (came (last_rest 2) ∷ came padding_rest ∷ came (middle_rest 2) ∷ came (first_rest 2) ∷ came padding_rest ∷ came (key_rest 1) ∷ [])
     ≡ (2 ∷ 3 ∷ 3 ∷ []) ∷ (1 ∷ 1 ∷ 3 ∷ []) ∷ []
 
 -- a number that was given up inside a frame tears the frame, and the next frame starts over
 abbrev pub TornFrame : Type 0
 TornFrame =
-    told (came (frame_rest 3 1) ∷ came (last_rest 2) ∷ Missing ∷ came (first_rest 2) ∷ came (key_rest 1) ∷ [])
+    summary (came (frame_rest 3 1) ∷ came (last_rest 2) ∷ Missing ∷ came (first_rest 2) ∷ came (key_rest 1) ∷ [])
     ≡ (3 ∷ 1 ∷ 3 ∷ []) ∷ (1 ∷ 1 ∷ 3 ∷ []) ∷ []
 
 -- a start that comes too early tears the frame too
 abbrev pub EarlyStart : Type 0
-EarlyStart = told (came (last_rest 2) ∷ came (frame_rest 3 2) ∷ came (first_rest 2) ∷ came (key_rest 1) ∷ []) ≡ (3 ∷ 1 ∷ 3 ∷ []) ∷ (1 ∷ 1 ∷ 3 ∷ []) ∷ []
+EarlyStart = summary (came (last_rest 2) ∷ came (frame_rest 3 2) ∷ came (first_rest 2) ∷ came (key_rest 1) ∷ []) ≡ (3 ∷ 1 ∷ 3 ∷ []) ∷ (1 ∷ 1 ∷ 3 ∷ []) ∷ []
 
 -- frame numbers wrap, and a key frame's number is above all earlier numbers
 abbrev pub WrappedNumbers : Type 0
 WrappedNumbers =
-    told (came (key_rest 5) ∷ came (frame_rest 0 1) ∷ came (key_rest 65535) ∷ [])
+    summary (came (key_rest 5) ∷ came (frame_rest 0 1) ∷ came (key_rest 65535) ∷ [])
     ≡ (65541 ∷ 1 ∷ 3 ∷ []) ∷ (65536 ∷ 1 ∷ 3 ∷ []) ∷ (65535 ∷ 1 ∷ 3 ∷ []) ∷ []
 
 -- a frame whose number isn't above the newest is ignored
 abbrev pub StaleNumber : Type 0
-StaleNumber = told (came (frame_rest 4 1) ∷ came (frame_rest 5 1) ∷ came (key_rest 4) ∷ []) ≡ (5 ∷ 1 ∷ 3 ∷ []) ∷ (4 ∷ 1 ∷ 3 ∷ []) ∷ []
+StaleNumber = summary (came (frame_rest 4 1) ∷ came (frame_rest 5 1) ∷ came (key_rest 4) ∷ []) ≡ (5 ∷ 1 ∷ 3 ∷ []) ∷ (4 ∷ 1 ∷ 3 ∷ []) ∷ []
 
 -- a mask applies from the frame that carries it; a structure without a mask makes all targets active
 abbrev pub NewMask : Type 0
 NewMask =
-    told (came (frame_rest 4 1) ∷ came (1 ∷ 1 ∷ 3 ∷ 0 ∷ 3 ∷ 0 ∷ 0 ∷ 1 ∷ []) ∷ came (frame_rest 2 1) ∷ came (key_rest 1) ∷ [])
+    summary (came (frame_rest 4 1) ∷ came (1 ∷ 1 ∷ 3 ∷ 0 ∷ 3 ∷ 0 ∷ 0 ∷ 1 ∷ []) ∷ came (frame_rest 2 1) ∷ came (key_rest 1) ∷ [])
     ≡ (4 ∷ 1 ∷ 2 ∷ []) ∷ (3 ∷ 1 ∷ 2 ∷ []) ∷ (2 ∷ 1 ∷ 3 ∷ []) ∷ (1 ∷ 1 ∷ 3 ∷ []) ∷ []
 
 -- only a key start may carry another structure; any other frame with another structure is unreadable
 abbrev pub OtherStructure : Type 0
 OtherStructure =
-    told (came (frame_rest 3 1) ∷ came (1 ∷ 1 ∷ 2 ∷ 8 ∷ 0 ∷ 0 ∷ 0 ∷ 1 ∷ []) ∷ came (key_rest 1) ∷ [])
+    summary (came (frame_rest 3 1) ∷ came (1 ∷ 1 ∷ 2 ∷ 8 ∷ 0 ∷ 0 ∷ 0 ∷ 1 ∷ []) ∷ came (key_rest 1) ∷ [])
     ≡ (3 ∷ 1 ∷ 3 ∷ []) ∷ (1 ∷ 1 ∷ 3 ∷ []) ∷ []
 
 -- a packet that can't be read tears the frame around it, and so do a broken payload and another structure
 abbrev pub UnreadInside : Type 0
-UnreadInside = told (came (last_rest 2) ∷ came (0 ∷ 0 ∷ 2 ∷ 0 ∷ 9 ∷ 1 ∷ 1 ∷ []) ∷ came (first_rest 2) ∷ came (key_rest 1) ∷ []) ≡ (1 ∷ 1 ∷ 3 ∷ []) ∷ []
+UnreadInside = summary (came (last_rest 2) ∷ came (0 ∷ 0 ∷ 2 ∷ 0 ∷ 9 ∷ 1 ∷ 1 ∷ []) ∷ came (first_rest 2) ∷ came (key_rest 1) ∷ []) ≡ (1 ∷ 1 ∷ 3 ∷ []) ∷ []
 
 abbrev pub BrokenInside : Type 0
-BrokenInside = told (came (last_rest 2) ∷ came (0 ∷ 0 ∷ 2 ∷ 0 ∷ 0 ∷ 3 ∷ 1 ∷ []) ∷ came (first_rest 2) ∷ came (key_rest 1) ∷ []) ≡ (1 ∷ 1 ∷ 3 ∷ []) ∷ []
+BrokenInside = summary (came (last_rest 2) ∷ came (0 ∷ 0 ∷ 2 ∷ 0 ∷ 0 ∷ 3 ∷ 1 ∷ []) ∷ came (first_rest 2) ∷ came (key_rest 1) ∷ []) ≡ (1 ∷ 1 ∷ 3 ∷ []) ∷ []
 
 abbrev pub OtherStructureInside : Type 0
-OtherStructureInside = told (came (last_rest 2) ∷ came (0 ∷ 0 ∷ 2 ∷ 8 ∷ 0 ∷ 1 ∷ 1 ∷ []) ∷ came (first_rest 2) ∷ came (key_rest 1) ∷ []) ≡ (1 ∷ 1 ∷ 3 ∷ []) ∷ []
+OtherStructureInside = summary (came (last_rest 2) ∷ came (0 ∷ 0 ∷ 2 ∷ 8 ∷ 0 ∷ 1 ∷ 1 ∷ []) ∷ came (first_rest 2) ∷ came (key_rest 1) ∷ []) ≡ (1 ∷ 1 ∷ 3 ∷ []) ∷ []
 
 -- a key start takes effect although its payload is broken: number 4 isn't above its number, and number 6 is
 abbrev pub BrokenKeyStart : Type 0
-BrokenKeyStart = told (came (frame_rest 6 1) ∷ came (frame_rest 4 1) ∷ came (1 ∷ 1 ∷ 5 ∷ 7 ∷ 0 ∷ 3 ∷ 0 ∷ []) ∷ came (key_rest 1) ∷ [])
+BrokenKeyStart = summary (came (frame_rest 6 1) ∷ came (frame_rest 4 1) ∷ came (1 ∷ 1 ∷ 5 ∷ 7 ∷ 0 ∷ 3 ∷ 0 ∷ []) ∷ came (key_rest 1) ∷ [])
     ≡ (6 ∷ 1 ∷ 3 ∷ []) ∷ (1 ∷ 1 ∷ 3 ∷ []) ∷ []
 
 -- a key start takes effect although its frame is torn
 abbrev pub TornKeyFrame : Type 0
-TornKeyFrame = told (came (frame_rest 6 1) ∷ came (frame_rest 4 1) ∷ Missing ∷ came (1 ∷ 0 ∷ 5 ∷ 7 ∷ 0 ∷ 0 ∷ 1 ∷ []) ∷ came (key_rest 1) ∷ [])
+TornKeyFrame = summary (came (frame_rest 6 1) ∷ came (frame_rest 4 1) ∷ Missing ∷ came (1 ∷ 0 ∷ 5 ∷ 7 ∷ 0 ∷ 0 ∷ 1 ∷ []) ∷ came (key_rest 1) ∷ [])
     ≡ (6 ∷ 1 ∷ 3 ∷ []) ∷ (1 ∷ 1 ∷ 3 ∷ []) ∷ []
 
 -- a mask takes effect although the payload is broken
 abbrev pub BrokenMask : Type 0
-BrokenMask = told (came (frame_rest 3 1) ∷ came (1 ∷ 1 ∷ 2 ∷ 0 ∷ 3 ∷ 3 ∷ 0 ∷ 1 ∷ []) ∷ came (key_rest 1) ∷ []) ≡ (3 ∷ 1 ∷ 2 ∷ []) ∷ (1 ∷ 1 ∷ 3 ∷ []) ∷ []
+BrokenMask = summary (came (frame_rest 3 1) ∷ came (1 ∷ 1 ∷ 2 ∷ 0 ∷ 3 ∷ 3 ∷ 0 ∷ 1 ∷ []) ∷ came (key_rest 1) ∷ []) ≡ (3 ∷ 1 ∷ 2 ∷ []) ∷ (1 ∷ 1 ∷ 3 ∷ []) ∷ []
 
 -- a packet without a payload has no effect, even with a mask or a key start in its descriptor
 abbrev pub PaddingSaysNothing : Type 0
-PaddingSaysNothing = told (came (frame_rest 2 1) ∷ came (1 ∷ 1 ∷ 5 ∷ 8 ∷ 0 ∷ 2 ∷ 0 ∷ []) ∷ came (0 ∷ 0 ∷ 1 ∷ 0 ∷ 3 ∷ 2 ∷ 0 ∷ []) ∷ came (key_rest 1)
+PaddingSaysNothing = summary (came (frame_rest 2 1) ∷ came (1 ∷ 1 ∷ 5 ∷ 8 ∷ 0 ∷ 2 ∷ 0 ∷ []) ∷ came (0 ∷ 0 ∷ 1 ∷ 0 ∷ 3 ∷ 2 ∷ 0 ∷ []) ∷ came (key_rest 1)
     ∷ []) ≡ (2 ∷ 1 ∷ 3 ∷ []) ∷ (1 ∷ 1 ∷ 3 ∷ []) ∷ []
 
 -- a frame has the mask in force once its last packet was read
 abbrev pub LastMask : Type 0
-LastMask = told (came (0 ∷ 1 ∷ 2 ∷ 0 ∷ 3 ∷ 1 ∷ 0 ∷ []) ∷ came (first_rest 2) ∷ came (key_rest 1) ∷ []) ≡ (2 ∷ 2 ∷ 2 ∷ []) ∷ (1 ∷ 1 ∷ 3 ∷ []) ∷ []
+LastMask = summary (came (0 ∷ 1 ∷ 2 ∷ 0 ∷ 3 ∷ 1 ∷ 0 ∷ []) ∷ came (first_rest 2) ∷ came (key_rest 1) ∷ []) ≡ (2 ∷ 2 ∷ 2 ∷ []) ∷ (1 ∷ 1 ∷ 3 ∷ []) ∷ []
 
 -- the same structure without a mask makes all targets active again
 abbrev pub MaskAgain : Type 0
-MaskAgain = told (came (1 ∷ 1 ∷ 3 ∷ 7 ∷ 0 ∷ 0 ∷ 0 ∷ 1 ∷ []) ∷ came (1 ∷ 1 ∷ 2 ∷ 0 ∷ 3 ∷ 0 ∷ 0 ∷ 1 ∷ []) ∷ came (key_rest 1) ∷ []) ≡ (3 ∷ 1 ∷ 3 ∷ [])
+MaskAgain = summary (came (1 ∷ 1 ∷ 3 ∷ 7 ∷ 0 ∷ 0 ∷ 0 ∷ 1 ∷ []) ∷ came (1 ∷ 1 ∷ 2 ∷ 0 ∷ 3 ∷ 0 ∷ 0 ∷ 1 ∷ []) ∷ came (key_rest 1) ∷ []) ≡ (3 ∷ 1 ∷ 3 ∷ [])
     ∷ (2 ∷ 1 ∷ 2 ∷ []) ∷ (1 ∷ 1 ∷ 3 ∷ []) ∷ []
 
 -- the first key frame may have the number 0
 abbrev pub FirstNumberZero : Type 0
-FirstNumberZero = told (came (frame_rest 1 1) ∷ came (key_rest 0) ∷ []) ≡ (1 ∷ 1 ∷ 3 ∷ []) ∷ (0 ∷ 1 ∷ 3 ∷ []) ∷ []
+FirstNumberZero = summary (came (frame_rest 1 1) ∷ came (key_rest 0) ∷ []) ≡ (1 ∷ 1 ∷ 3 ∷ []) ∷ (0 ∷ 1 ∷ 3 ∷ []) ∷ []
 
 -- a number that is 32,767 more counts as above, and one that is 32,768 more doesn't
 abbrev pub FarthestAbove : Type 0
-FarthestAbove = told (came (1 ∷ 1 ∷ 32768 ∷ 0 ∷ 0 ∷ 0 ∷ 0 ∷ []) ∷ came (key_rest 1) ∷ []) ≡ (32768 ∷ 1 ∷ 3 ∷ []) ∷ (1 ∷ 1 ∷ 3 ∷ []) ∷ []
+FarthestAbove = summary (came (1 ∷ 1 ∷ 32768 ∷ 0 ∷ 0 ∷ 0 ∷ 0 ∷ []) ∷ came (key_rest 1) ∷ []) ≡ (32768 ∷ 1 ∷ 3 ∷ []) ∷ (1 ∷ 1 ∷ 3 ∷ []) ∷ []
 
 abbrev pub NearestBehind : Type 0
-NearestBehind = told (came (1 ∷ 1 ∷ 32769 ∷ 0 ∷ 0 ∷ 0 ∷ 0 ∷ []) ∷ came (key_rest 1) ∷ []) ≡ (1 ∷ 1 ∷ 3 ∷ []) ∷ []
+NearestBehind = summary (came (1 ∷ 1 ∷ 32769 ∷ 0 ∷ 0 ∷ 0 ∷ 0 ∷ []) ∷ came (key_rest 1) ∷ []) ≡ (1 ∷ 1 ∷ 3 ∷ []) ∷ []
 
 -- 512 packets can be a frame, and 513 can't
 abbrev pub LongFrame : Type 0
-LongFrame = told (came (last_rest 2) ∷ replicate 510 (came (middle_rest 2)) ++ came (first_rest 2) ∷ came (key_rest 1) ∷ []) ≡ (2 ∷ 512 ∷ 3 ∷ [])
+LongFrame = summary (came (last_rest 2) ∷ replicate 510 (came (middle_rest 2)) ++ came (first_rest 2) ∷ came (key_rest 1) ∷ []) ≡ (2 ∷ 512 ∷ 3 ∷ [])
     ∷ (1 ∷ 1 ∷ 3 ∷ []) ∷ []
 
 abbrev pub TooLongFrame : Type 0
-TooLongFrame = told (came (last_rest 2) ∷ replicate 511 (came (middle_rest 2)) ++ came (first_rest 2) ∷ came (key_rest 1) ∷ []) ≡ (1 ∷ 1 ∷ 3 ∷ []) ∷ []
+TooLongFrame = summary (came (last_rest 2) ∷ replicate 511 (came (middle_rest 2)) ++ came (first_rest 2) ∷ came (key_rest 1) ∷ []) ≡ (1 ∷ 1 ∷ 3 ∷ []) ∷ []
 
 -- ---- a history: a key frame comes before the join; then a frame, another key frame, and a frame of three packets, of which one call releases
 -- the last two; three requests find two packets

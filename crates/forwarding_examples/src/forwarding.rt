@@ -31,7 +31,7 @@ pub fn worked_timelines()
     ensures hole_bounds { Rows.HoleBounds }
 {}
 
-/// Timelines that show single rules of selection, causes and markers. The results were worked out by hand.
+/// Timelines, each of which shows one rule of selection, of causes or of markers. The results were worked out by hand.
 pub fn worked_selection()
     ensures passing_opens_nothing { SelectionRows.PassingOpensNothing }
     ensures new_epoch { SelectionRows.NewEpochGivesTheReason }
@@ -42,7 +42,7 @@ pub fn worked_selection()
     ensures fourth_bit { SelectionRows.FourthBitIsTargetThree }
     ensures absence_first { SelectionRows.AbsenceComesFirst }
     ensures no_target_first { SelectionRows.NoTargetComesFirst }
-    ensures greatest_below { SelectionRows.GreatestBelowIsTold }
+    ensures greatest_below { SelectionRows.GreatestBelowIsReported }
     ensures old_frames { SelectionRows.OldFramesKeepTheirCauses }
     ensures key_frame_far_back { SelectionRows.KeyFramesArentForgotten }
     ensures lower_marker { SelectionRows.LowerMarkersAreKept }

@@ -5,12 +5,12 @@ ghost use Rattle.forwarding_examples.specs.WorkedFormat;
 ghost use Rattle.forwarding_examples.specs.WorkedPackets;
 ghost use Rattle.forwarding_model.specs.frames.Reading.{IsFormat};
 
-/// The format that reads the packets of the examples fulfils all assumptions of the laws.
+/// The format of the examples' packets fulfils every assumption that the laws make about formats.
 pub fn worked_packets_have_a_format()
     ensures { IsFormat WorkedFormat.worked_format }
 {}
 
-/// Packets with the frames that they make. The results were worked out by hand.
+/// Packets and the frames that are assembled from them. The results were worked out by hand.
 pub fn worked_frames()
     ensures padded_frame { WorkedPackets.PaddedFrame }
     ensures torn_frame { WorkedPackets.TornFrame }
@@ -35,7 +35,7 @@ pub fn worked_frames()
     ensures too_long_frame { WorkedPackets.TooLongFrame }
 {}
 
-/// More packets and histories with their results, which were worked out by hand.
+/// More packets and histories with their results. The results were worked out by hand.
 pub fn worked_tracks()
     ensures torn_number { TrackRows.TornNumber }
     ensures equal_number { TrackRows.EqualNumber }

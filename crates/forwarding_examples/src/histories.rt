@@ -5,7 +5,7 @@ ghost use Rattle.forwarding_examples.specs.LayeredRows;
 ghost use Rattle.forwarding_examples.specs.WorkedPackets;
 ghost use Rattle.forwarding_model.specs.frames.Reading.{IsFormat};
 
-/// Histories with joins, packets and a change of wish. What is forwarded, taken and withheld was worked out by hand.
+/// Histories with joins, packets and a change of wish. The results were worked out by hand: what is forwarded, taken and withheld.
 pub fn worked_history()
     ensures numbers { WorkedPackets.HistoryNumbers }
     ensures taken { WorkedPackets.HistoryTaken }
@@ -18,8 +18,8 @@ pub fn worked_history()
     ensures third_subscriber_causes { WorkedPackets.ThirdSubscriberCauses }
 {}
 
-/// Histories of layered tracks with chains: their packets, the causes, and the forwarded packets. Their format fulfils all assumptions of the
-/// laws.
+/// Histories of layered tracks with chains, and the causes and forwarded packets that result from them. The format of these histories' packets fulfils every
+/// assumption that the laws make about formats.
 pub fn worked_layers()
     ensures format { IsFormat LayeredFormat.layered_format }
     ensures broken_chain { LayeredRows.BrokenChain }

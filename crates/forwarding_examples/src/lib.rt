@@ -1,5 +1,5 @@
-//! Worked examples of forwarding. Packets, timelines and histories show what the definitions of `forwarding_model` yield; the results were worked out by
-//! hand. Further examples show what the definitions of `forwarding_laws` reject. Each table of examples is the contract of a function that does nothing.
+//! Worked examples of forwarding. Packets, timelines and histories show what the definitions of `forwarding_model` yield. The results were worked out by hand.
+//! Further examples show what the definitions of `forwarding_laws` reject. Each table of examples is the contract of a function with an empty body.
 #![tactic(auto)]
 
 mod forwarding;

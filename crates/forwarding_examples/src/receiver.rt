@@ -3,7 +3,7 @@
 ghost use Rattle.forwarding_examples.specs.ReceptionRows;
 ghost use Rattle.forwarding_examples.specs.WorkedPackets;
 
-/// Packets with a strict receiver's complaint about them. The results were worked out by hand.
+/// Packets, and the complaint, if any, that a strict receiver has about them. The results were worked out by hand.
 pub fn worked_complaints()
     ensures accepted { WorkedPackets.Accepted }
     ensures accepted_counts { WorkedPackets.AcceptedCounts }
@@ -35,7 +35,8 @@ pub fn worked_complaints()
     ensures stale_counts { WorkedPackets.StaleCounts }
 {}
 
-/// More packets with the place of a strict receiver's complaint. The results were worked out by hand.
+/// More packets, and the complaint, if any, that a strict receiver has about them. The rows also say how many packets the receiver accepts before it complains.
+/// The results were worked out by hand.
 pub fn worked_receptions()
     ensures other_number_at_once { ReceptionRows.OtherNumberAtOnce }
     ensures broken_join_at_once { ReceptionRows.BrokenJoinAtOnce }

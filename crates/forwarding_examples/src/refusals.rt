@@ -2,9 +2,10 @@
 
 ghost use Rattle.forwarding_examples.specs.Refusals;
 
-/// Some definitions occur only in conclusions of laws. These definitions reject a path that is empty, doesn't decrease, continues after a root,
-/// doesn't end at a root or has another cause. These definitions also reject a frame that isn't decodable, and anything that isn't a restart, a
-/// link or an open target. `NoneJoins` and `EachFrameSince` are no narrower than they should be.
+/// Some definitions occur only in conclusions of laws. The examples show what these definitions reject. A path is rejected if it is empty, continues after a
+/// root, doesn't end at a root, or has frame numbers that don't decrease. A path is also rejected if one of its verdicts names a frame other than the next
+/// step's frame, or isn't the cause of its own step's frame. Frames that aren't decodable, frames that aren't restarts, lost links and closed targets are
+/// rejected too. Other examples show that `NoneJoins` and `EachFrameSince` are neither too narrow nor too wide.
 pub fn words_refuse_what_they_should()
     ensures empty_is_no_path { Refusals.EmptyIsNoPath }
     ensures passed_is_no_root { Refusals.PassedIsNoRoot }

@@ -7,7 +7,7 @@ ghost use Rattle.forwarding_model.specs.forwarding.Timeline.{Event};
 
 use forwarding_laws::queues_are_short;
 
-/// After any events, at most 512 packets are queued for a subscriber.
+/// Whatever events came, at most 512 packets are queued for a subscriber.
 pub fn no_queue_is_long<Structure>()
     ensures { (wish : Wish) (events : List (Event Structure)) → (standing wish events).queued ≤ 512 }
 {

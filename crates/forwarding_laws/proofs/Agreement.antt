@@ -11,7 +11,7 @@ use Rattle.forwarding_model.specs.declared.target.CurrentTarget.TheVariants.{Ope
 use Rattle.forwarding_model.specs.declared.target.Reason.TheVariants.{BrokenLink}
 use Rattle.forwarding_model.specs.Lists.{first_failing, is_nothing}
 use Rattle.forwarding_model.specs.forwarding.Targets.{references, best}
-use Rattle.forwarding_model.specs.forwarding.Selection.{Agree, missing_reference, chain_link, target_under_mask, target_after_link, kept_target, can_open, opened_or, candidate, is_present_in, has_room, passes, verdict, target_of, target_verdict, reference_verdict, candidate_verdict}
+use Rattle.forwarding_model.specs.forwarding.Selection.{Agree, missing_reference, chain_link, target_under_mask, target_after_link, kept_target, can_open, opened_or, candidate, is_present_in, has_capacity, passes, verdict, target_of, target_verdict, reference_verdict, candidate_verdict}
 
 failing_same : (p q : ℕ → Bool) (xs : List ℕ) → AllByRecursion (λ d. p d ≡ q d) xs → first_failing p xs ≡ first_failing q xs
 failing_same p q [] h = refl
@@ -43,8 +43,8 @@ candidate_agree p q keyed wish f target h =
 pub passes_agree : (p q : ℕ → Bool) (keyed : Bool) (wish : Wish) (f : FrameMeaning) (target : CurrentTarget) (queued packets : ℕ) → Agree p q f
     → passes p keyed wish f target queued packets ≡ passes q keyed wish f target queued packets
 passes_agree p q keyed wish f target queued packets h =
-    ap (λ c. is_present_in f c && (is_nothing (missing_reference p f) && has_room queued packets)) (candidate_agree p q keyed wish f target h)
-    ∙ ap (λ m. is_present_in f (candidate q keyed wish f target) && (is_nothing m && has_room queued packets)) (missing_agree p q f h)
+    ap (λ c. is_present_in f c && (is_nothing (missing_reference p f) && has_capacity queued packets)) (candidate_agree p q keyed wish f target h)
+    ∙ ap (λ m. is_present_in f (candidate q keyed wish f target) && (is_nothing m && has_capacity queued packets)) (missing_agree p q f h)
 
 pub verdict_agree : (p q : ℕ → Bool) (keyed : Bool) (wish : Wish) (f : FrameMeaning) (target : CurrentTarget) (queued packets : ℕ) → Agree p q f
     → verdict p keyed wish f target queued packets ≡ verdict q keyed wish f target queued packets

@@ -43,13 +43,13 @@ abbrev pub IsEpochOf : List FrameMeaning → Option ℕ → Type 0
 IsEpochOf [] epoch = epoch ≡ None
 IsEpochOf (h ∷ past) epoch = epoch ≡ Some h.epoch
 
-pub record IsTold (past : List FrameMeaning) (steps : List Step) (s : Standing) : Type 0 where
+pub record IsReported (past : List FrameMeaning) (steps : List Step) (s : Standing) : Type 0 where
   pub came : AllByRecursion (λ g. IsMember g past) s.passed
   pub inside : AllByRecursion (λ g. s.epoch ≡ Some g.epoch → IsMember g s.epoch_passed) s.passed
   pub newest_epoch : IsEpochOf past s.epoch
   pub opening : AtOpening s.target s.epoch_passed
   pub cut : AtBroken s.target (λ m. (m < newest_of past) × (verdict_among steps m ≡ Some Passed → ⊥))
-  pub told : (m : ℕ) → verdict_among steps m ≡ Some Passed → (g : FrameMeaning) × IsMember g s.passed × (g.number ≡ m)
+  pub reported : (m : ℕ) → verdict_among steps m ≡ Some Passed → (g : FrameMeaning) × IsMember g s.passed × (g.number ≡ m)
 
 -- the frames of one epoch follow one another, without other frames between them
 pub epoch_apart : (past : List FrameMeaning) (f g : FrameMeaning) (epoch : Option ℕ) → IsOneTrack (f ∷ past) → IsEpochOf past epoch → IsMember g past
@@ -77,45 +77,45 @@ epoch_apart (h ∷ past) f g epoch track e m same other = go m
         absurd (omega (arith, last, low))
 
 -- a passed frame of f's epoch is among those passed at f
-inside_at : (past : List FrameMeaning) (steps : List Step) (s : Standing) (f g : FrameMeaning) → IsOneTrack (f ∷ past) → IsTold past steps s
+inside_at : (past : List FrameMeaning) (steps : List Step) (s : Standing) (f g : FrameMeaning) → IsOneTrack (f ∷ past) → IsReported past steps s
     → IsMember g s.passed → g.epoch ≡ f.epoch → IsMember g (passed_at s f)
-inside_at past steps s f g track told m same = go (is_epoch s.epoch f.epoch) refl
+inside_at past steps s f g track reported m same = go (is_epoch s.epoch f.epoch) refl
   where
     go : (b : Bool) → is_epoch s.epoch f.epoch ≡ b → IsMember g (cond b s.epoch_passed [])
     go true e =
-        each_member (λ g. s.epoch ≡ Some g.epoch → IsMember g s.epoch_passed) s.passed g told.inside m
+        each_member (λ g. s.epoch ≡ Some g.epoch → IsMember g s.epoch_passed) s.passed g reported.inside m
         (is_epoch-true s.epoch f.epoch e ∙ ap Some (sym same))
     go false e =
-        absurd (epoch_apart past f g s.epoch track told.newest_epoch
-        (each_member (λ g. IsMember g past) s.passed g told.came m) same e)
+        absurd (epoch_apart past f g s.epoch track reported.newest_epoch
+        (each_member (λ g. IsMember g past) s.passed g reported.came m) same e)
 
 -- a frame at or after the start of f's epoch, that has passed, is among those passed at f
-passed_has : (past : List FrameMeaning) (steps : List Step) (s : Standing) (f : FrameMeaning) (m d : ℕ) → IsOneTrack (f ∷ past) → IsTold past steps s
+passed_has : (past : List FrameMeaning) (steps : List Step) (s : Standing) (f : FrameMeaning) (m d : ℕ) → IsOneTrack (f ∷ past) → IsReported past steps s
     → m + d ≡ f.number → f.start ≤ m → verdict_among steps m ≡ Some Passed → has_below (passed_at s f) f.number d ≡ true
-passed_has past steps s f m d track told sum low passed =
-    let from = told.told m passed in
+passed_has past steps s f m d track reported sum low passed =
+    let from = reported.reported m passed in
     let number : from.0.number ≡ m = from.2 in
-    let at = each_member (Precedes f) past from.0 track.1 (each_member (λ g. IsMember g past) s.passed from.0 told.came from.1) in
+    let at = each_member (Precedes f) past from.0 track.1 (each_member (λ g. IsMember g past) s.passed from.0 reported.came from.1) in
     let same : from.0.epoch ≡ f.epoch = (elim at.epochs [ inl a ↦ a.0 | inr a ↦ absurd (let lt = a.1 in omega arith) ]) in
-    member_any (λ g. (g.number + d) == f.number) (passed_at s f) from.0 (inside_at past steps s f from.0 track told from.1 same)
+    member_any (λ g. (g.number + d) == f.number) (passed_at s f) from.0 (inside_at past steps s f from.0 track reported from.1 same)
     (eq-eqb _ _ (omega arith))
 
 abbrev pub IsUnpassed : List Step → ℕ → ℕ → Type 0
 IsUnpassed steps n m = (m < n) × (verdict_among steps m ≡ Some Passed → ⊥)
 
-unpassed_at : (past : List FrameMeaning) (steps : List Step) (s : Standing) (f : FrameMeaning) (m d : ℕ) → IsOneTrack (f ∷ past) → IsTold past steps s
+unpassed_at : (past : List FrameMeaning) (steps : List Step) (s : Standing) (f : FrameMeaning) (m d : ℕ) → IsOneTrack (f ∷ past) → IsReported past steps s
     → m + d ≡ f.number → 1 ≤ d → f.start ≤ m → has_below (passed_at s f) f.number d ≡ false → IsUnpassed steps f.number m
-unpassed_at past steps s f m d track told sum pos low none =
-    (omega arith, λ passed. true≢false (sym (passed_has past steps s f m d track told sum low passed) ∙ none))
+unpassed_at past steps s f m d track reported sum pos low none =
+    (omega arith, λ passed. true≢false (sym (passed_has past steps s f m d track reported sum low passed) ∙ none))
 
 -- a missing reference at or after the start was not passed
-reference_unpassed : (past : List FrameMeaning) (steps : List Step) (s : Standing) (f : FrameMeaning) (o : Option ℕ) → IsOneTrack (f ∷ past) → IsTold past steps s
+reference_unpassed : (past : List FrameMeaning) (steps : List Step) (s : Standing) (f : FrameMeaning) (o : Option ℕ) → IsOneTrack (f ∷ past) → IsReported past steps s
     → missing_reference (has_passed s f) f ≡ o → AtSome o (λ d. f.start + d ≤ f.number → IsUnpassed steps f.number (f.number - d))
-reference_unpassed past steps s f None track told e = tt
-reference_unpassed past steps s f (Some d) track told e = λ low.
+reference_unpassed past steps s f None track reported e = tt
+reference_unpassed past steps s f (Some d) track reported e = λ low.
     let fails = failing_some (has_below (passed_at s f) f.number) (references f) d e in
     let ref : 1 ≤ d = (each_member IsDistance (references f) d (distances_of f track.0.valid) fails.0).back in
-    unpassed_at past steps s f (f.number - d) d track told (omega arith) ref (omega arith) fails.1
+    unpassed_at past steps s f (f.number - d) d track reported (omega arith) ref (omega arith) fails.1
 
 -- ---- the target at f
 
@@ -128,19 +128,19 @@ cut_weaker P Q (Open t opened) h c = tt
 cut_weaker P Q (Closed (BrokenLink at number)) h c = h number c
 cut_weaker P Q (Closed (NotOpened since)) h c = tt
 
-epoch_cut : (past : List FrameMeaning) (steps : List Step) (s : Standing) (f : FrameMeaning) → IsOneTrack (f ∷ past) → IsTold past steps s
+epoch_cut : (past : List FrameMeaning) (steps : List Step) (s : Standing) (f : FrameMeaning) → IsOneTrack (f ∷ past) → IsReported past steps s
     → AtBroken (target_at s f) (IsUnpassed steps f.number)
-epoch_cut past steps s f track told = go (is_epoch s.epoch f.epoch)
+epoch_cut past steps s f track reported = go (is_epoch s.epoch f.epoch)
   where
     go : (b : Bool) → AtBroken (cond b s.target (Closed (NotOpened f.number))) (IsUnpassed steps f.number)
-    go true = cut_weaker _ _ s.target (λ m c. (newest_before past f m track.1 c.0, c.1)) told.cut
+    go true = cut_weaker _ _ s.target (λ m c. (newest_before past f m track.1 c.0, c.1)) reported.cut
     go false = tt
 
-epoch_opening : (past : List FrameMeaning) (steps : List Step) (s : Standing) (f : FrameMeaning) → IsTold past steps s → AtOpening (target_at s f) (passed_at s f)
-epoch_opening past steps s f told = go (is_epoch s.epoch f.epoch)
+epoch_opening : (past : List FrameMeaning) (steps : List Step) (s : Standing) (f : FrameMeaning) → IsReported past steps s → AtOpening (target_at s f) (passed_at s f)
+epoch_opening past steps s f reported = go (is_epoch s.epoch f.epoch)
   where
     go : (b : Bool) → AtOpening (cond b s.target (Closed (NotOpened f.number))) (cond b s.epoch_passed [])
-    go true = told.opening
+    go true = reported.opening
     go false = tt
 
 masked_cut : (P : ℕ → Type 0) (f : FrameMeaning) (t : CurrentTarget) → AtBroken t P → AtBroken (target_under_mask f t) P
@@ -179,11 +179,11 @@ opening_start past passed f h track known one m =
     let good : h.start ≤ h.number = (each_member IsTrackFrame past h (frames_sound past track.2) came).valid.start in
     omega arith
 
-linked_cut : (past : List FrameMeaning) (steps : List Step) (s : Standing) (f : FrameMeaning) (t : CurrentTarget) → IsOneTrack (f ∷ past) → IsTold past steps s
+linked_cut : (past : List FrameMeaning) (steps : List Step) (s : Standing) (f : FrameMeaning) (t : CurrentTarget) → IsOneTrack (f ∷ past) → IsReported past steps s
     → AllByRecursion (λ g. IsMember g past) (passed_at s f) → AllByRecursion (λ g. Some f.epoch ≡ Some g.epoch) (passed_at s f)
     → AtOpening t (passed_at s f) → AtBroken t (IsUnpassed steps f.number) → AtBroken (target_after_link (has_below (passed_at s f) f.number) f t) (IsUnpassed steps f.number)
-linked_cut past steps s f (Closed r) track told known one opening h = h
-linked_cut past steps s f (Open t opened) track told known one opening h = go (is_link_broken (has_below (passed_at s f) f.number) f t opened) refl
+linked_cut past steps s f (Closed r) track reported known one opening h = h
+linked_cut past steps s f (Open t opened) track reported known one opening h = go (is_link_broken (has_below (passed_at s f) f.number) f t opened) refl
   where
     go : (b : Bool) → is_link_broken (has_below (passed_at s f) f.number) f t opened ≡ b → AtBroken (cond b (Closed (BrokenLink f.number (f.number - chain_link f t))) (Open t opened)) (IsUnpassed steps f.number)
     go false e = tt
@@ -195,7 +195,7 @@ linked_cut past steps s f (Open t opened) track told known one opening h = go (i
         let late : opened + chain_link f t ≤ f.number = leb-true _ _ c.0 in
         let first : f.start ≤ opening.0.number = opening_start past (passed_at s f) f opening.0 track known one opening.1 in
         let number : opening.0.number ≡ opened = opening.2 in
-        unpassed_at past steps s f (f.number - chain_link f t) (chain_link f t) track told (omega arith) (omega arith) (omega arith) (not-true _ c.1)
+        unpassed_at past steps s f (f.number - chain_link f t) (chain_link f t) track reported (omega arith) (omega arith) (omega arith) (not-true _ c.1)
 
 -- ---- the invariant is kept
 
@@ -204,19 +204,19 @@ older_cause : (steps : List Step) (f : FrameMeaning) (v : Verdict) (m : ℕ) →
     → verdict_among (record { number = f.number; verdict = v } ∷ steps) m ≡ verdict_among steps m
 older_cause steps f v m lt = rw (ne_eqb f.number m (λ e. omega arith)) refl
 
-told_cut : (steps : List Step) (f : FrameMeaning) (v : Verdict) (m : ℕ) → IsUnpassed steps f.number m
+reported_cut : (steps : List Step) (f : FrameMeaning) (v : Verdict) (m : ℕ) → IsUnpassed steps f.number m
     → (m < f.number) × (verdict_among (record { number = f.number; verdict = v } ∷ steps) m ≡ Some Passed → ⊥)
-told_cut steps f v m u = (u.0, λ e. u.1 (sym (older_cause steps f v m u.0) ∙ e))
+reported_cut steps f v m u = (u.0, λ e. u.1 (sym (older_cause steps f v m u.0) ∙ e))
 
-told_at : (steps : List Step) (s : Standing) (f : FrameMeaning) (v : Verdict) (m : ℕ)
+reported_at : (steps : List Step) (s : Standing) (f : FrameMeaning) (v : Verdict) (m : ℕ)
     → (verdict_among steps m ≡ Some Passed → (g : FrameMeaning) × IsMember g s.passed × (g.number ≡ m))
     → v ≢ Passed
     → verdict_among (record { number = f.number; verdict = v } ∷ steps) m ≡ Some Passed → (g : FrameMeaning) × IsMember g s.passed × (g.number ≡ m)
-told_at steps s f v m told not h = go (f.number == m) h
+reported_at steps s f v m reported not h = go (f.number == m) h
   where
     go : (b : Bool) → cond b (Some v) (verdict_among steps m) ≡ Some Passed → (g : FrameMeaning) × IsMember g s.passed × (g.number ≡ m)
     go true e = absurd (not (grind arith))
-    go false e = told e
+    go false e = reported e
 
 opening_weaker : (t : CurrentTarget) (f : FrameMeaning) (passed : List FrameMeaning) → AtOpening t passed → AtOpening t (f ∷ passed)
 opening_weaker (Open t opened) f passed h = (h.0, inr h.1, h.2)
@@ -226,73 +226,73 @@ opened_opening : (f : FrameMeaning) (o : Option ℕ) (t : CurrentTarget) (passed
 opened_opening f None t passed h = opening_weaker t f passed h
 opened_opening f (Some u) t passed h = (f, inl refl, refl)
 
-opening_at : (past : List FrameMeaning) (steps : List Step) (s : Standing) (f : FrameMeaning) → IsTold past steps s → AtOpening (kept_target_at s f) (passed_at s f)
-opening_at past steps s f told = linked_opening (passed_at s f) f (target_under_mask f (target_at s f)) (masked_opening (passed_at s f) f (target_at s f) (epoch_opening past steps s f told))
+opening_at : (past : List FrameMeaning) (steps : List Step) (s : Standing) (f : FrameMeaning) → IsReported past steps s → AtOpening (kept_target_at s f) (passed_at s f)
+opening_at past steps s f reported = linked_opening (passed_at s f) f (target_under_mask f (target_at s f)) (masked_opening (passed_at s f) f (target_at s f) (epoch_opening past steps s f reported))
 
-cut_at : (past : List FrameMeaning) (steps : List Step) (s : Standing) (f : FrameMeaning) → IsOneTrack (f ∷ past) → IsTold past steps s
+cut_at : (past : List FrameMeaning) (steps : List Step) (s : Standing) (f : FrameMeaning) → IsOneTrack (f ∷ past) → IsReported past steps s
     → IsSound past s.epoch_passed s.passed s.epoch s.target → IsKept s.epoch_passed s.passed s.epoch
     → AtBroken (kept_target_at s f) (IsUnpassed steps f.number)
-cut_at past steps s f track told sound kept =
-    linked_cut past steps s f (target_under_mask f (target_at s f)) track told
+cut_at past steps s f track reported sound kept =
+    linked_cut past steps s f (target_under_mask f (target_at s f)) track reported
     (sound_at past s f sound).known
     (kept_at s f kept).one_epoch
-    (masked_opening (passed_at s f) f (target_at s f) (epoch_opening past steps s f told))
-    (masked_cut _ f (target_at s f) (epoch_cut past steps s f track told))
+    (masked_opening (passed_at s f) f (target_at s f) (epoch_opening past steps s f reported))
+    (masked_cut _ f (target_at s f) (epoch_cut past steps s f track reported))
 
-inside_new : (past : List FrameMeaning) (steps : List Step) (s : Standing) (f : FrameMeaning) → IsOneTrack (f ∷ past) → IsTold past steps s
+inside_new : (past : List FrameMeaning) (steps : List Step) (s : Standing) (f : FrameMeaning) → IsOneTrack (f ∷ past) → IsReported past steps s
     → AllByRecursion (λ g. Some f.epoch ≡ Some g.epoch → IsMember g (passed_at s f)) s.passed
-inside_new past steps s f track told =
-    each_of _ s.passed (λ g m same. inside_at past steps s f g track told m (let back : Some f.epoch ≡ Some g.epoch = same in grind arith))
+inside_new past steps s f track reported =
+    each_of _ s.passed (λ g m same. inside_at past steps s f g track reported m (let back : Some f.epoch ≡ Some g.epoch = same in grind arith))
 
-told_admitted : (past : List FrameMeaning) (steps : List Step) (s : Standing) (f : FrameMeaning) (packets : ℕ) (b : Bool) → IsOneTrack (f ∷ past)
-    → IsTold past steps s → IsSound past s.epoch_passed s.passed s.epoch s.target → IsKept s.epoch_passed s.passed s.epoch → passes_at s f packets ≡ b
-    → IsTold (f ∷ past) (record { number = f.number; verdict = verdict_at s f packets } ∷ steps) (admitted b s f packets)
-told_admitted past steps s f packets false track told sound kept e =
+reported_admitted : (past : List FrameMeaning) (steps : List Step) (s : Standing) (f : FrameMeaning) (packets : ℕ) (b : Bool) → IsOneTrack (f ∷ past)
+    → IsReported past steps s → IsSound past s.epoch_passed s.passed s.epoch s.target → IsKept s.epoch_passed s.passed s.epoch → passes_at s f packets ≡ b
+    → IsReported (f ∷ past) (record { number = f.number; verdict = verdict_at s f packets } ∷ steps) (admitted b s f packets)
+reported_admitted past steps s f packets false track reported sound kept e =
     record {
-      came = each_weaker _ _ s.passed (λ g m. inr m) told.came;
-      inside = inside_new past steps s f track told;
+      came = each_weaker _ _ s.passed (λ g m. inr m) reported.came;
+      inside = inside_new past steps s f track reported;
       newest_epoch = refl;
-      opening = opening_at past steps s f told;
-      cut = cut_weaker _ _ (kept_target_at s f) (told_cut steps f (verdict_at s f packets)) (cut_at past steps s f track told sound kept);
-      told = λ m h. told_at steps s f (verdict_at s f packets) m (told.told m)
+      opening = opening_at past steps s f reported;
+      cut = cut_weaker _ _ (kept_target_at s f) (reported_cut steps f (verdict_at s f packets)) (cut_at past steps s f track reported sound kept);
+      reported = λ m h. reported_at steps s f (verdict_at s f packets) m (reported.reported m)
           (λ v. true≢false (sym (passes_from_verdict (has_passed s f) (key_passed s f) s.wish f (target_at s f) s.queued packets v) ∙ e)) h;
     }
-told_admitted past steps s f packets true track told sound kept e =
+reported_admitted past steps s f packets true track reported sound kept e =
     record {
-      came = (inl refl, each_weaker _ _ s.passed (λ g m. inr m) told.came);
-      inside = ((λ same. inl refl), each_weaker _ _ s.passed (λ g h same. inr (h same)) (inside_new past steps s f track told));
+      came = (inl refl, each_weaker _ _ s.passed (λ g m. inr m) reported.came);
+      inside = ((λ same. inl refl), each_weaker _ _ s.passed (λ g h same. inr (h same)) (inside_new past steps s f track reported));
       newest_epoch = refl;
-      opening = opened_opening f _ (kept_target_at s f) (passed_at s f) (opening_at past steps s f told);
+      opening = opened_opening f _ (kept_target_at s f) (passed_at s f) (opening_at past steps s f reported);
       cut = opened_cut _ f _ (kept_target_at s f)
-          (cut_weaker _ _ (kept_target_at s f) (told_cut steps f (verdict_at s f packets)) (cut_at past steps s f track told sound kept));
-      told = λ m h. told_new m (f.number == m) refl h;
+          (cut_weaker _ _ (kept_target_at s f) (reported_cut steps f (verdict_at s f packets)) (cut_at past steps s f track reported sound kept));
+      reported = λ m h. reported_new m (f.number == m) refl h;
     }
   where
-    told_new : (m : ℕ) (b : Bool) → (f.number == m) ≡ b → cond b (Some (verdict_at s f packets)) (verdict_among steps m) ≡ Some Passed
+    reported_new : (m : ℕ) (b : Bool) → (f.number == m) ≡ b → cond b (Some (verdict_at s f packets)) (verdict_among steps m) ≡ Some Passed
         → (g : FrameMeaning) × IsMember g (f ∷ s.passed) × (g.number ≡ m)
-    told_new m true k h = (f, inl refl, eqb-true f.number m k)
-    told_new m false k h = let from = told.told m h in (from.0, inr from.1, from.2)
+    reported_new m true k h = (f, inl refl, eqb-true f.number m k)
+    reported_new m false k h = let from = reported.reported m h in (from.0, inr from.1, from.2)
 
-told_plain : (past : List FrameMeaning) (steps : List Step) (s : Standing) (b : Bool) → IsTold past steps s → IsTold past steps (after_plain b s)
-told_plain past steps s true h =
-    record { came = h.came; inside = h.inside; newest_epoch = h.newest_epoch; opening = h.opening; cut = h.cut; told = h.told }
-told_plain past steps s false h = h
+reported_plain : (past : List FrameMeaning) (steps : List Step) (s : Standing) (b : Bool) → IsReported past steps s → IsReported past steps (after_plain b s)
+reported_plain past steps s true h =
+    record { came = h.came; inside = h.inside; newest_epoch = h.newest_epoch; opening = h.opening; cut = h.cut; reported = h.reported }
+reported_plain past steps s false h = h
 
-pub all_told : {S : Type 0} (wish : Wish) (events : List (Event S)) → IsOneTrack (meanings_of events)
-    → IsTold (meanings_of events) (verdicts wish events) (standing wish events)
-all_told wish [] track = record { came = tt; inside = tt; newest_epoch = refl; opening = tt; cut = tt; told = λ m h. absurd (grind arith) }
-all_told wish (WholeFrame x ∷ past) track =
-    told_admitted (meanings_of past) (verdicts wish past) (standing wish past) x.meaning (length x.packets)
+pub all_reported : {S : Type 0} (wish : Wish) (events : List (Event S)) → IsOneTrack (meanings_of events)
+    → IsReported (meanings_of events) (verdicts wish events) (standing wish events)
+all_reported wish [] track = record { came = tt; inside = tt; newest_epoch = refl; opening = tt; cut = tt; reported = λ m h. absurd (grind arith) }
+all_reported wish (WholeFrame x ∷ past) track =
+    reported_admitted (meanings_of past) (verdicts wish past) (standing wish past) x.meaning (length x.packets)
     (passes_at (standing wish past) x.meaning (length x.packets)) track
-    (all_told wish past track.2) (sound wish past track.2) (kept wish past).1 refl
-all_told wish (PlainPacket p ∷ past) track =
-    told_plain (meanings_of past) (verdicts wish past) (standing wish past) (plain_passes (standing wish past)) (all_told wish past track)
-all_told wish (WishChange w ∷ past) track =
-    let h = all_told wish past track in
-    record { came = h.came; inside = h.inside; newest_epoch = h.newest_epoch; opening = h.opening; cut = h.cut; told = h.told }
-all_told wish (Take ∷ past) track =
-    let h = all_told wish past track in
-    record { came = h.came; inside = h.inside; newest_epoch = h.newest_epoch; opening = h.opening; cut = h.cut; told = h.told }
+    (all_reported wish past track.2) (sound wish past track.2) (kept wish past).1 refl
+all_reported wish (PlainPacket p ∷ past) track =
+    reported_plain (meanings_of past) (verdicts wish past) (standing wish past) (plain_passes (standing wish past)) (all_reported wish past track)
+all_reported wish (WishChange w ∷ past) track =
+    let h = all_reported wish past track in
+    record { came = h.came; inside = h.inside; newest_epoch = h.newest_epoch; opening = h.opening; cut = h.cut; reported = h.reported }
+all_reported wish (Take ∷ past) track =
+    let h = all_reported wish past track in
+    record { came = h.came; inside = h.inside; newest_epoch = h.newest_epoch; opening = h.opening; cut = h.cut; reported = h.reported }
 
 -- ---- what a cause names
 
@@ -330,12 +330,12 @@ names_unpassed wish (WholeFrame x ∷ past) n v track h = go (f.number == n) ref
     fell : Verdict
     fell = verdict_at s f (length x.packets)
 
-    told : IsTold (meanings_of past) steps s
-    told = all_told wish past track.2
+    reported : IsReported (meanings_of past) steps s
+    reported = all_reported wish past track.2
 
     here : AtSome (followed fell) (IsUnpassed steps f.number)
-    here = verdict_names _ s f (length x.packets) (cut_at (meanings_of past) steps s f track told (sound wish past track.2) (kept wish past).1)
-        (reference_unpassed (meanings_of past) steps s f (missing_reference (has_passed s f) f) track told refl)
+    here = verdict_names _ s f (length x.packets) (cut_at (meanings_of past) steps s f track reported (sound wish past track.2) (kept wish past).1)
+        (reference_unpassed (meanings_of past) steps s f (missing_reference (has_passed s f) f) track reported refl)
 
     go : (b : Bool) → (f.number == n) ≡ b → cond b (Some fell) (verdict_among steps n) ≡ Some v
         → (verdict_among steps n ≡ Some v → AtSome (followed v) (IsUnpassed steps n))
@@ -343,14 +343,14 @@ names_unpassed wish (WholeFrame x ∷ past) n v track h = go (f.number == n) ref
     go true e h rec =
         let same : fell ≡ v = grind arith in
         some_weaker _ _ (followed v)
-        (λ m u. let r = told_cut steps f fell m u in (let lt = r.0 in omega (arith, eqb-true f.number n e), r.1))
+        (λ m u. let r = reported_cut steps f fell m u in (let lt = r.0 in omega (arith, eqb-true f.number n e), r.1))
         (subst (λ x. AtSome (followed x) (IsUnpassed steps f.number)) same here)
     go false e h rec =
         let from = verdict_frame wish past n v h in
         let rises : from.0.number < f.number = (each_member (Precedes f) (meanings_of past) from.0 track.1 from.1).rises in
         let number : from.0.number ≡ n = from.2 in
         some_weaker _ _ (followed v)
-        (λ m u. (u.0, (told_cut steps f fell m (let lt = u.0 in omega arith, u.1)).1))
+        (λ m u. (u.0, (reported_cut steps f fell m (let lt = u.0 in omega arith, u.1)).1))
         (rec h)
 names_unpassed wish (PlainPacket p ∷ past) n v track h = names_unpassed wish past n v track h
 names_unpassed wish (WishChange w ∷ past) n v track h = names_unpassed wish past n v track h

@@ -15,7 +15,7 @@ use Rattle.forwarding_model.specs.declared.target.Reason.{Reason}
 use Rattle.forwarding_model.specs.declared.target.Reason.TheVariants.{BrokenLink, NotOpened}
 use Rattle.forwarding_model.specs.Lists.{first_failing}
 use Rattle.forwarding_model.specs.forwarding.Targets.{references, is_present, is_allowed, aim, IsBest}
-use Rattle.forwarding_model.specs.forwarding.Selection.{missing_reference, opening, opened_or, is_present_in, has_room, target_of, reason_verdict, candidate_verdict, reference_verdict, target_verdict}
+use Rattle.forwarding_model.specs.forwarding.Selection.{missing_reference, opening, opened_or, is_present_in, has_capacity, target_of, reason_verdict, candidate_verdict, reference_verdict, target_verdict}
 use Rattle.forwarding_model.specs.forwarding.Standing.{Standing, has_passed, key_passed, kept_target_at, candidate_at, target_at, passes_at, verdict_at}
 use Rattle.forwarding_laws.specs.forwarding.Decisions.{IsInTarget, IsFirstMissing, IsComplete, IsClosedAt, IsTargetOf, IsOfTarget}
 use Rattle.forwarding_laws.specs.forwarding.VerdictWords.{Says}
@@ -79,10 +79,10 @@ verdict_says s f packets = go (candidate_at s f) refl
     in_target : (target opened : ℕ) → candidate_at s f ≡ Open target opened → is_present f target ≡ true → IsInTarget f (candidate_at s f)
     in_target target opened e present = candidate_in_target (has_passed s f) (key_passed s f) s.wish f (target_at s f) (ap (is_present_in f) e ∙ present)
 
-    room : (target opened : ℕ) → candidate_at s f ≡ Open target opened → is_present f target ≡ true → IsComplete s f → (b : Bool) → has_room s.queued packets ≡ b
+    capacity : (target opened : ℕ) → candidate_at s f ≡ Open target opened → is_present f target ≡ true → IsComplete s f → (b : Bool) → has_capacity s.queued packets ≡ b
         → Says s f packets (cond b Passed (Full s.queued packets))
-    room target opened e present complete true k = (in_target target opened e present, complete, leb-true (s.queued + packets) 512 k)
-    room target opened e present complete false k = (refl, refl, leb-false (s.queued + packets) 512 k, complete, in_target target opened e present)
+    capacity target opened e present complete true k = (in_target target opened e present, complete, leb-true (s.queued + packets) 512 k)
+    capacity target opened e present complete false k = (refl, refl, leb-false (s.queued + packets) 512 k, complete, in_target target opened e present)
 
     closed : (reason : Reason) → IsOfTarget s f → IsClosedAt s f reason → IsComplete s f → Says s f packets (reason_verdict reason)
     closed (BrokenLink at number) is c complete = (is, complete, c)
@@ -103,7 +103,7 @@ verdict_says s f packets = go (candidate_at s f) refl
         aiming s f packets target (reference_verdict f (missing_reference (has_passed s f) f) (candidate_verdict s.queued packets (Open target opened))) (inl (opened, e))
         (λ present.
         referring s f packets (missing_reference (has_passed s f) f) (candidate_verdict s.queued packets (Open target opened)) (target, inl (opened, e), present) refl
-        (λ complete. room target opened e present complete (has_room s.queued packets) refl))
+        (λ complete. capacity target opened e present complete (has_capacity s.queued packets) refl))
     go (Closed reason) e = by_aim reason (closed_candidate s f reason e) (aim s.wish f) refl
 
 pub claimed : (s : Standing) (f : FrameMeaning) (packets : ℕ) (v : Verdict) → verdict_at s f packets ≡ v → Says s f packets v
@@ -150,7 +150,7 @@ of_missing s f packets d is m =
 
 -- the verdict of a frame that is present in an open target
 of_open : (s : Standing) (f : FrameMeaning) (packets : ℕ) (v : Verdict) → IsInTarget f (candidate_at s f) → IsComplete s f
-    → cond (has_room s.queued packets) Passed (Full s.queued packets) ≡ v → verdict_at s f packets ≡ v
+    → cond (has_capacity s.queued packets) Passed (Full s.queued packets) ≡ v → verdict_at s f packets ≡ v
 of_open s f packets v in_it complete e = go (candidate_at s f) refl in_it
   where
     go : (c : CurrentTarget) → candidate_at s f ≡ c → IsInTarget f c → verdict_at s f packets ≡ v
@@ -195,9 +195,9 @@ says_verdict s f packets (Reference number) h = of_missing s f packets h.1.0 h.0
     go true e = let lt : f.number < f.start + d = ltb-true f.number (f.start + d) e in let l = low in absurd (omega arith)
     go false e = ap Reference (let n = names in let is : f.number - d ≡ number = omega arith in is)
 says_verdict s f packets (Full queued needed) h =
-    of_open s f packets (Full queued needed) h.4 h.3 (go (has_room s.queued packets) refl)
+    of_open s f packets (Full queued needed) h.4 h.3 (go (has_capacity s.queued packets) refl)
   where
-    go : (b : Bool) → has_room s.queued packets ≡ b → cond b Passed (Full s.queued packets) ≡ Full queued needed
+    go : (b : Bool) → has_capacity s.queued packets ≡ b → cond b Passed (Full s.queued packets) ≡ Full queued needed
     go true e =
         let fits : s.queued + packets ≤ 512 = leb-true (s.queued + packets) 512 e in
         let over : 512 < queued + needed = h.2 in let q : queued ≡ s.queued = h.0 in let n : needed ≡ packets = h.1 in absurd (omega arith)

@@ -15,7 +15,7 @@ use Rattle.forwarding_model.specs.forwarding.Standing.{Standing, is_epoch, is_ke
 use Rattle.forwarding_laws.proofs.Members.{each_member, each_of, any_member, member_any}
 use Rattle.forwarding_laws.proofs.Sound.{is_epoch-true}
 use Rattle.forwarding_laws.proofs.Decoding.{member_filter, filter_member}
-use Rattle.forwarding_laws.proofs.Causes.{all_told, epoch_apart}
+use Rattle.forwarding_laws.proofs.Causes.{all_reported, epoch_apart}
 
 abbrev EpochIsCounted : Standing → Type 0
 EpochIsCounted s = (epoch : ℕ) → s.epoch ≡ Some epoch → s.epoch_passed ≡ of_epoch epoch s.passed
@@ -34,9 +34,9 @@ counted_at wish events f track counted = go (is_epoch s.epoch f.epoch) refl
 
     other : is_epoch s.epoch f.epoch ≡ false → (g : FrameMeaning) → IsMember g s.passed → g.epoch ≡ f.epoch → ⊥
     other e g m same =
-        let told = all_told wish events track.2 in
-        epoch_apart (meanings_of events) f g s.epoch track told.newest_epoch
-        (each_member (λ g. IsMember g (meanings_of events)) s.passed g told.came m) same e
+        let reported = all_reported wish events track.2 in
+        epoch_apart (meanings_of events) f g s.epoch track reported.newest_epoch
+        (each_member (λ g. IsMember g (meanings_of events)) s.passed g reported.came m) same e
 
     go : (b : Bool) → is_epoch s.epoch f.epoch ≡ b → cond b s.epoch_passed [] ≡ of_epoch f.epoch s.passed
     go true e = counted f.epoch (is_epoch-true s.epoch f.epoch e)

@@ -8,7 +8,7 @@ use Rattle.sfu_base.specs.declared.frame.Verdict.TheVariants.{Passed, NotOfTarge
 use Rattle.sfu_base.specs.declared.frame.Step.{Step}
 use Rattle.forwarding_model.specs.forwarding.Timeline.{Event, meanings_of}
 use Rattle.forwarding_model.specs.frames.TrackFrames.{IsOneTrack}
-use Rattle.forwarding_model.specs.forwarding.Causes.{verdict_among, verdicts, cause, verdict_or_hole, newest_number, number_or, next_below, next_above, followed, path_within, path_on, path, IsPath, IsPathFrom, IsWithheld, TellsCauses}
+use Rattle.forwarding_model.specs.forwarding.Causes.{verdict_among, verdicts, cause, verdict_or_hole, newest_number, number_or, next_below, next_above, followed, path_within, path_on, path, IsPath, IsPathFrom, IsWithheld, HaveCauses}
 use Rattle.forwarding_laws.proofs.Causes.{names_unpassed, withheld_verdict}
 use Rattle.forwarding_laws.proofs.Verdicts.{AtSome, some_weaker}
 
@@ -50,16 +50,16 @@ causes_fall wish events track n = go (verdict_among steps n) refl
     go None e = tt
     go (Some v) e = some_weaker _ _ (followed v) (λ m u. (u.0, hole_or (verdict_among steps m) _ _ u.1)) (names_unpassed wish events n v track e)
 
-tells : (causes : ℕ → Verdict) (limit n : ℕ) → TellsCauses causes (path_within limit causes n)
+tells : (causes : ℕ → Verdict) (limit n : ℕ) → HaveCauses causes (path_within limit causes n)
 tells causes zero n = tt
 tells causes (suc limit) n = (refl, go (followed (causes n)) (tells causes limit))
   where
-    go : (o : Option ℕ) → ((m : ℕ) → TellsCauses causes (path_within limit causes m)) → TellsCauses causes (path_on o (path_within limit causes))
+    go : (o : Option ℕ) → ((m : ℕ) → HaveCauses causes (path_within limit causes m)) → HaveCauses causes (path_on o (path_within limit causes))
     go None rec = tt
     go (Some m) rec = rec m
 
-pub path_tells : (causes : ℕ → Verdict) (n : ℕ) → TellsCauses causes (path causes n)
-path_tells causes n = tells causes (n + 1) n
+pub path_has_causes : (causes : ℕ → Verdict) (n : ℕ) → HaveCauses causes (path causes n)
+path_has_causes causes n = tells causes (n + 1) n
 
 -- for each number whose cause isn't Passed, a frame's or a hole
 pub unpassed_path : {S : Type 0} (wish : Wish) (events : List (Event S)) (n : ℕ) → IsOneTrack (meanings_of events) → cause wish events n ≢ Passed

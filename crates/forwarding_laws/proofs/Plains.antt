@@ -13,9 +13,9 @@ use Rattle.forwarding_laws.proofs.StrictReceiver.{numbered-append}
 pub plain_goes_out : {S : Type 0} (send : Sender S) (subscriber : Subscriber) (packet : Packet) (past : List (Event S)) → (standing subscriber.wish past).queued < 512
     → outgoing send subscriber (PlainPacket packet ∷ past)
     ≡ outgoing send subscriber past ++ renumbered (subscriber.first + length (outgoing send subscriber past)) subscriber.ssrc packet ∷ []
-plain_goes_out send subscriber packet past room =
+plain_goes_out send subscriber packet past capacity =
     ap (λ b. numbered subscriber.first subscriber.ssrc (cond b (forwarded send subscriber.wish past ++ packet ∷ []) (forwarded send subscriber.wish past)))
-    (lt-ltb (standing subscriber.wish past).queued 512 room)
+    (lt-ltb (standing subscriber.wish past).queued 512 capacity)
     ∙ numbered-append subscriber.first subscriber.ssrc (forwarded send subscriber.wish past) (packet ∷ [])
     ∙ ap (λ n. outgoing send subscriber past ++ renumbered (subscriber.first + n) subscriber.ssrc packet ∷ [])
     (sym (length-numbered subscriber.first subscriber.ssrc (forwarded send subscriber.wish past)))

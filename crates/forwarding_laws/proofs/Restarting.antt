@@ -7,7 +7,7 @@ use Rattle.sfu_base.specs.declared.frame.FrameMeaning.{FrameMeaning}
 use Rattle.sfu_base.specs.declared.frame.Wish.{Wish}
 use Rattle.forwarding_model.specs.forwarding.Targets.{is_switch, is_present, is_allowed, best}
 use Rattle.forwarding_model.specs.declared.target.CurrentTarget.{CurrentTarget}
-use Rattle.forwarding_model.specs.forwarding.Selection.{missing_reference, target_under_mask, target_after_link, can_open, opened_or, is_present_in, has_room}
+use Rattle.forwarding_model.specs.forwarding.Selection.{missing_reference, target_under_mask, target_after_link, can_open, opened_or, is_present_in, has_capacity}
 use Rattle.forwarding_model.specs.forwarding.Timeline.{Event, Frame}
 use Rattle.forwarding_model.specs.forwarding.Standing.{Standing, is_epoch, has_below, passed_at, target_at, has_passed, key_passed, kept_target_at, candidate_at, passes_at, admitted, after_plain, plain_passes, standing}
 use Rattle.forwarding_model.specs.forwarding.Timeline.Event.{WholeFrame, PlainPacket, WishChange, Take}
@@ -42,7 +42,7 @@ closed_at s f h = after_steps (target_at s f) (go (is_epoch s.epoch f.epoch))
 restart : (s : Standing) (f : FrameMeaning) (packets : ℕ) → IsClosed (kept_target_at s f) → passes_at s f packets ≡ true → IsRestart s f
 restart s f packets closed p =
     let a = and_parts (is_present_in f (candidate_at s f)) _ p in
-    let b = and_parts (is_nothing (missing_reference (has_passed s f) f)) (has_room s.queued packets) a.1 in
+    let b = and_parts (is_nothing (missing_reference (has_passed s f) f)) (has_capacity s.queued packets) a.1 in
     record {
       complete = none_is _ b.0;
       begins = go (best f (can_open s.wish (is_nothing (missing_reference (has_passed s f) f)) (f.key || key_passed s f) f (kept_target_at s f))) refl a.0;

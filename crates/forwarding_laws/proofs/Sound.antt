@@ -9,7 +9,7 @@ use Rattle.sfu_base.specs.declared.frame.Wish.{Wish}
 use Rattle.forwarding_model.specs.Lists.{IsMember, is_nothing}
 use Rattle.forwarding_model.specs.forwarding.Targets.{is_active, is_better, best, best_below, is_allowed, is_switch, is_present}
 use Rattle.forwarding_model.specs.declared.target.CurrentTarget.{CurrentTarget}
-use Rattle.forwarding_model.specs.forwarding.Selection.{missing_reference, target_under_mask, chain_link, is_link_broken, target_after_link, is_upgrade, can_open, is_present_in, has_room}
+use Rattle.forwarding_model.specs.forwarding.Selection.{missing_reference, target_under_mask, chain_link, is_link_broken, target_after_link, is_upgrade, can_open, is_present_in, has_capacity}
 use Rattle.forwarding_model.specs.forwarding.Timeline.{Event, meanings_of}
 use Rattle.forwarding_model.specs.forwarding.Standing.{Standing, is_epoch, is_key, has_below, passed_at, target_at, has_passed, key_passed, kept_target_at, candidate_at, passes_at, admitted, plain_passes, after_plain, standing}
 use Rattle.forwarding_model.specs.forwarding.Timeline.Event.{WholeFrame, PlainPacket, WishChange, Take}
@@ -132,7 +132,7 @@ pub passing : (s : Standing) (f : FrameMeaning) (packets : ℕ) → HasOpenKey s
     → passes_at s f packets ≡ true → Passing s f
 passing s f packets h p =
     let a = and_parts (is_present_in f (candidate_at s f)) _ p in
-    let b = and_parts (is_nothing (missing_reference (has_passed s f) f)) (has_room s.queued packets) a.1 in
+    let b = and_parts (is_nothing (missing_reference (has_passed s f) f)) (has_capacity s.queued packets) a.1 in
     record {
       found = none_is _ b.0;
       has_key = candidate_key s f h a.0;

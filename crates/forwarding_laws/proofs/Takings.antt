@@ -203,10 +203,10 @@ resends_the_kept_numbers send subscriber events i =
           (not_kept k.plain k.from k.ssrc next i (subst (λ n. n ≤ i) k.size le) lt)),
     )
 
-pub oldest_is_told : {S : Type 0} (send : Sender S) (subscriber : Subscriber) (events : List (Event S))
+pub oldest_is_reported : {S : Type 0} (send : Sender S) (subscriber : Subscriber) (events : List (Event S))
     → (kept send subscriber events ≡ [] → oldest_number send subscriber events ≡ next_number send subscriber events)
     × ((packet : Packet) (packets : List Packet) → kept send subscriber events ≡ packet ∷ packets → oldest_number send subscriber events ≡ packet.sequence_number)
-oldest_is_told send subscriber events = (
+oldest_is_reported send subscriber events = (
   (λ e. ap (λ l. oldest_of l (next_number send subscriber events)) e),
   λ packet packets e. ap (λ l. oldest_of l (next_number send subscriber events)) e,
 )

@@ -14,7 +14,7 @@ use Rattle.forwarding_model.specs.declared.target.Reason.{Reason}
 use Rattle.forwarding_model.specs.declared.target.Reason.TheVariants.{BrokenLink, NotOpened}
 use Rattle.forwarding_model.specs.Lists.{is_nothing}
 use Rattle.forwarding_model.specs.forwarding.Targets.{is_present, aim}
-use Rattle.forwarding_model.specs.forwarding.Selection.{missing_reference, opened_or, candidate, is_present_in, has_room, passes, verdict, target_of, reason_verdict, candidate_verdict, reference_verdict, target_verdict}
+use Rattle.forwarding_model.specs.forwarding.Selection.{missing_reference, opened_or, candidate, is_present_in, has_capacity, passes, verdict, target_of, reason_verdict, candidate_verdict, reference_verdict, target_verdict}
 use Rattle.forwarding_model.specs.forwarding.Standing.{Standing, has_passed, kept_target_at, candidate_at, verdict_at}
 use Rattle.forwarding_model.specs.forwarding.Causes.{followed}
 
@@ -39,10 +39,10 @@ reason_not_passed : (r : Reason) → reason_verdict r ≡ Passed → ⊥
 reason_not_passed (BrokenLink at number) h = grind arith
 reason_not_passed (NotOpened since) h = grind arith
 
-room_of : (queued packets : ℕ) → cond (has_room queued packets) Passed (Full queued packets) ≡ Passed → has_room queued packets ≡ true
-room_of queued packets h = go (has_room queued packets) refl h
+capacity_of : (queued packets : ℕ) → cond (has_capacity queued packets) Passed (Full queued packets) ≡ Passed → has_capacity queued packets ≡ true
+capacity_of queued packets h = go (has_capacity queued packets) refl h
   where
-    go : (b : Bool) → has_room queued packets ≡ b → cond b Passed (Full queued packets) ≡ Passed → has_room queued packets ≡ true
+    go : (b : Bool) → has_capacity queued packets ≡ b → cond b Passed (Full queued packets) ≡ Passed → has_capacity queued packets ≡ true
     go true e h = e
     go false e h = absurd (grind arith)
 
@@ -51,16 +51,16 @@ pub passes_from_verdict : (has : ℕ → Bool) (key_passed : Bool) (wish : Wish)
 passes_from_verdict has key_passed wish f current queued packets h = go (candidate has key_passed wish f current) h
   where
     go : (c : CurrentTarget) → target_verdict f (target_of wish f c) (reference_verdict f (missing_reference has f) (candidate_verdict queued packets c)) ≡ Passed
-        → (is_present_in f c && (is_nothing (missing_reference has f) && has_room queued packets)) ≡ true
+        → (is_present_in f c && (is_nothing (missing_reference has f) && has_capacity queued packets)) ≡ true
     go (Open t opened) h =
-        let room : Verdict = candidate_verdict queued packets (Open t opened) in
-        let a = present_of f t (reference_verdict f (missing_reference has f) room) h in
-        let b = found_of f (missing_reference has f) room a.1 in
-        rw (a.0, b.0, room_of queued packets b.1) refl
+        let capacity : Verdict = candidate_verdict queued packets (Open t opened) in
+        let a = present_of f t (reference_verdict f (missing_reference has f) capacity) h in
+        let b = found_of f (missing_reference has f) capacity a.1 in
+        rw (a.0, b.0, capacity_of queued packets b.1) refl
     go (Closed r) h = closed (aim wish f) h
       where
         closed : (o : Option ℕ) → target_verdict f o (reference_verdict f (missing_reference has f) (reason_verdict r)) ≡ Passed
-            → (false && (is_nothing (missing_reference has f) && has_room queued packets)) ≡ true
+            → (false && (is_nothing (missing_reference has f) && has_capacity queued packets)) ≡ true
         closed None h = absurd (grind arith)
         closed (Some t) h =
             absurd (reason_not_passed r (found_of f (missing_reference has f) (reason_verdict r)
@@ -70,17 +70,17 @@ pub verdict_from_passes : (has : ℕ → Bool) (key_passed : Bool) (wish : Wish)
     → passes has key_passed wish f current queued packets ≡ true → verdict has key_passed wish f current queued packets ≡ Passed
 verdict_from_passes has key_passed wish f current queued packets h = go (candidate has key_passed wish f current) (missing_reference has f) h
   where
-    go : (c : CurrentTarget) (o : Option ℕ) → (is_present_in f c && (is_nothing o && has_room queued packets)) ≡ true
+    go : (c : CurrentTarget) (o : Option ℕ) → (is_present_in f c && (is_nothing o && has_capacity queued packets)) ≡ true
         → target_verdict f (target_of wish f c) (reference_verdict f o (candidate_verdict queued packets c)) ≡ Passed
     go (Closed r) o h = absurd (true≢false (sym h))
     go (Open t opened) o h =
         let a = and_parts (is_present f t) _ h in
-        let b = and_parts (is_nothing o) (has_room queued packets) a.1 in
+        let b = and_parts (is_nothing o) (has_capacity queued packets) a.1 in
         rw (a.0) (found o b.0 b.1)
       where
-        found : (o : Option ℕ) → is_nothing o ≡ true → has_room queued packets ≡ true → reference_verdict f o (candidate_verdict queued packets (Open t opened)) ≡ Passed
-        found None n room = rw room refl
-        found (Some d) n room = absurd (true≢false (sym n))
+        found : (o : Option ℕ) → is_nothing o ≡ true → has_capacity queued packets ≡ true → reference_verdict f o (candidate_verdict queued packets (Open t opened)) ≡ Passed
+        found None n capacity = rw capacity refl
+        found (Some d) n capacity = absurd (true≢false (sym n))
 
 -- ---- what a verdict names
 
@@ -111,7 +111,7 @@ reference_names P f (Some d) v h r = go (nat_lt f.number (f.start + d)) refl
     go false e = r (ltb-false f.number (f.start + d) e)
 
 open_names : (P : ℕ → Type 0) (queued packets : ℕ) (c : CurrentTarget) → AtBroken c P → AtSome (followed (candidate_verdict queued packets c)) P
-open_names P queued packets (Open t opened) h = go (has_room queued packets)
+open_names P queued packets (Open t opened) h = go (has_capacity queued packets)
   where
     go : (b : Bool) → AtSome (followed (cond b Passed (Full queued packets))) P
     go true = tt

@@ -2,23 +2,25 @@
 
 ghost use Rattle.forwarding_laws.specs.histories.HistoryWords;
 
-/// The timeline of a subscriber of a layered track has all frames that became complete since it joined. All these frames are frames of one
-/// track. A timeline only grows, until the subscriber's number joins again.
+/// On a layered track, a subscriber's timeline has all frames that became complete since the subscriber joined. These frames are frames of one track
+/// (`IsTrack`). Until a subscriber joins with the same number again, events are only added to the timeline.
 pub fn timelines_have_all_frames<Structure>()
     ensures frames { HistoryWords.TimelinesHaveTheFrames Structure }
     ensures track { HistoryWords.TimelinesAreTracks Structure }
     ensures grow { HistoryWords.TimelinesOnlyGrow Structure }
 {}
 
-/// A join begins a subscriber's timeline. A later entry adds the frames that it releases, this subscriber's change of wish, or this subscriber's take
-/// if a packet is queued. Entries of other subscribers add nothing. On a plain track, the timeline has each packet released since the join, in order.
+/// A join begins a subscriber's timeline. A later entry of the history adds the frames that the entry releases, a change of this subscriber's wish, or, if
+/// a packet is queued, a take by this subscriber. Entries of other subscribers add nothing. On a plain track, the timeline has each packet released since
+/// the join, in order.
 pub fn entries_add_what_they_say<Structure>()
     ensures entries { HistoryWords.EntriesInWords Structure }
     ensures join { HistoryWords.JoinsBegin Structure }
     ensures plain { HistoryWords.PlainTimelinesHaveThePackets Structure }
 {}
 
-/// The last join under a number determines the subscriber with that number, whatever came later. A number that never joined has no subscriber.
+/// A subscriber joins with a number. The last join with a number determines the subscriber that has this number. Only another join with this number changes
+/// that. If no subscriber ever joined with a number, no subscriber has the number.
 pub fn subscribers_are_known_as_they_joined()
     ensures joined { HistoryWords.JoinsAreKnown }
     ensures nobody { HistoryWords.NobodyIsKnown }

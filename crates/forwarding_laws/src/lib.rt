@@ -1,8 +1,8 @@
-//! The laws of forwarding, and the terms in which they are stated. `forwarding_model` has the definitions.
+//! The laws of forwarding, and the terms in which they are stated. The definitions of forwarding are in the crate `forwarding_model`.
 //!
-//! Each law is the contract of a function that does nothing. Another crate uses a law by calling its function, or by naming its lemma in
-//! `proofs/`. For each part, `specs/` defines the terms and states the laws. `Structure` is the type of template dependency structures. There
-//! is no other code here.
+//! Each law is the contract of a function that does nothing. Another crate uses a law by calling that function, or by naming the law's lemma, which is in
+//! `proofs/`. For each module, `specs/` defines the terms and states the laws. `Structure` is the type of template dependency structures. There is no other
+//! code here.
 #![tactic(auto)]
 
 mod forwarding;

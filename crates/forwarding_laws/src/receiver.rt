@@ -5,9 +5,10 @@ ghost use Rattle.forwarding_laws.specs.receiver.Laws;
 
 // ---- forwarded packets are accepted
 
-/// If each frame is sent whole, a strict receiver has no complaint about the packets forwarded to a subscriber of a layered track, nor about
-/// any prefix of them. The same holds in every history of a track, and there for the taken packets too. For histories, the law assumes that the
-/// format fulfils `IsFormat`, and that the sender keeps frames whole (`KeepsWhole`).
+/// Suppose that each frame is sent whole to a subscriber of a layered track. Then a strict receiver has no complaint about the packets forwarded to this
+/// subscriber. The same is true for every prefix of these packets. In every history of a layered track, both facts hold, and a strict receiver has no
+/// complaint about the packets that the subscriber took. For histories, the law assumes that the format fulfils `IsFormat`, and that the sender keeps
+/// frames whole (`KeepsWhole`).
 pub fn strict_receiver_never_complains<Structure>()
     ensures prefix { Laws.NeverComplains Structure }
     ensures history { Laws.OutgoingNeverComplains Structure }
@@ -16,18 +17,19 @@ pub fn strict_receiver_never_complains<Structure>()
 
 // ---- which packets are accepted, and the place of a complaint
 
-/// Packets without a complaint have one SSRC and consecutive sequence numbers. The packets form complete frames, one after another, perhaps
-/// followed by the first packets of another frame. Each frame refers only to frames that count as received when it arrives. A frame counts
-/// until the next key frame, or until a frame whose number isn't 1 to 32,767 above the number before it, modulo 65,536. Conversely, there is no
-/// complaint about packets for which all this is true. There is always a complaint about bytes that aren't an RTP packet.
+/// Suppose that a strict receiver has no complaint about some packets. Then these packets have one SSRC and consecutive sequence numbers. They form
+/// complete frames, one after another. The first packets of one more frame may follow. When a complete frame arrives, all frames to which it refers count
+/// as received. A received frame stops counting when the next key frame arrives. It also stops counting when a frame arrives whose number isn't 1 to 32,767
+/// above the previous frame's number, modulo 65,536. Conversely, a strict receiver has no complaint about packets for which all this is true. It always
+/// complains about bytes that aren't an RTP packet.
 pub fn accepted_packets_are_whole_frames<Structure>()
     ensures accepts { Accepted.NoComplaintAccepts Structure }
     ensures converse { Accepted.AcceptedIsNotComplainedOf Structure }
     ensures packets { Accepted.NoComplaintIsOfPackets Structure }
 {}
 
-/// A strict receiver without a complaint has accepted all packets and all complete frames in them. If a strict receiver complains about a
-/// packet, it has accepted the packets before that packet, and the complete frames in them.
+/// A strict receiver without a complaint has accepted all packets and all complete frames in them. A strict receiver that complains about a packet has
+/// accepted all packets before that packet, and all complete frames in those packets.
 pub fn complaints_come_in_their_place<Structure>()
     ensures count { Accepted.CountsAreWhole Structure }
     ensures frames { Accepted.FramesAreCounted Structure }

@@ -12,7 +12,7 @@ use std::alloc::Global;
 use std::marker::Model;
 
 /// Assembles the packets of a layered track into frames (RTP Payload Format For AV1, section 4.4 and Appendix A). Contracts see the frame under
-/// assembly, if there is one. They also see the packets of the frame that the last call completed, if it completed one.
+/// assembly, if there is one. If the last call completed a frame, they also see the packets of that frame.
 #[derive(Drop)]
 pub struct Assembly {
     frame: Frame,
@@ -41,10 +41,11 @@ impl Assembly {
     }
 
     /// Processes the next packet, of at most 1,500 bytes, and copies its bytes. Returns
-    /// - `Whole` if the packet completes a frame. A frame has at most 512 parts (own rule), with only padding between them, all with one frame
-    ///   number. Only the first part has `start`, and only the last has `end`. The Z of the first part and the Y of the last part are 0. The Z of
-    ///   each later part is the Y of the part before;
-    /// - `Partial` if such a frame isn't complete yet. The frame's last OBU element may then be unfinished;
+    /// - `Whole` if the packet completes a frame. A frame has at most 512 parts (own rule). All parts have the same frame number, and only padding may
+    ///   lie between them. The first part alone has `start` set, and the last part alone has `end` set. The Z of the first part and the Y of the last
+    ///   part are 0. Each later part's Z equals the Y of the part before it;
+    /// - `Partial` if the packet is part of an unfinished frame. The parts so far obey these rules, except that none has `end` set yet and that the
+    ///   newest part's Y may be 1;
     /// - `Pad` if the packet is padding;
     /// - `Torn` in all other cases: the frame under assembly, if there is one, is dropped (own rule).
     pub fn push(&mut self, mark: &Mark, packet: &[u8]) -> Outcome
@@ -68,7 +69,7 @@ impl Assembly {
     }
 
     /// Processes the next packet like [`Assembly::push`], but takes it from a slot. If the packet becomes one of the first 32 parts of the frame under
-    /// assembly, the slot is swapped with one of the assembly's slots. Then no byte is copied. The bytes that are in the slot afterwards belong to no frame.
+    /// assembly, the slot is swapped with one of the assembly's slots, and no byte is copied. After the call, the bytes in `slot` belong to no frame.
     pub fn push_slot(&mut self, mark: &Mark, slot: &mut Box<PacketSlot>) -> Outcome
         ensures stands { (past : List (CutMark (List ℕ))) → IsAfter self.old past → IsAfter self.new (marked mark.now slot.old.value ∷ past) }
         ensures outcome { (past : List (CutMark (List ℕ))) → IsAfter self.old past

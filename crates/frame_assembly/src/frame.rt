@@ -22,7 +22,7 @@ enum Progress {
     Whole,
 }
 
-/// The frame under assembly, if there is one. Also has the packets of the frame that the last call completed, if it completed one.
+/// Stores the frame under assembly, if there is one. If the last call completed a frame, also stores the packets of that frame.
 #[derive(Drop)]
 pub struct Frame {
     progress: Progress,
@@ -41,7 +41,7 @@ impl Model for Frame {
 }
 
 impl Frame {
-    /// A value without a frame. Returns `NoMemory` if memory runs out. No later call allocates memory.
+    /// Returns a value that stores no frame, or `NoMemory` if memory runs out. No later call allocates memory.
     pub fn new(alloc: Global) -> Result<Frame, NoMemory>
         ensures { IfOk result (λ frame. frame ≡ nothing) }
     {
@@ -54,8 +54,8 @@ impl Frame {
     }
 
     // The clauses here are about one call, and those of `Assembly` about whole lists of marks.
-    /// Applies a mark, whose packet is in `slot`, to the frame so far. If the packet is added to the frame, the slot may be swapped with one of
-    /// the frame's slots.
+    /// Applies the next mark to the frame under assembly. `slot` has the mark's packet. If the packet is added to the frame, the slot may be swapped
+    /// with one of the frame's slots.
     pub fn take_mark(&mut self, mark: &Mark, slot: &mut Box<PacketSlot>) -> Outcome
         ensures seen { self.new ≡ pushed self.old (marked mark.now slot.old.value) }
         ensures made { result ≡ made_of self.old (marked mark.now slot.old.value) }

@@ -2,8 +2,9 @@
 
 ghost use Rattle.frame_assembly.specs.Joins.{PartsJoinAsPackets, PartsJoinSoFarAsPackets};
 
-/// The parts of a frame join by the definition in `forwarding_model` exactly when their packets join by the definition in `obu_element`. The
-/// same holds for parts whose last element may be unfinished. `Brought` is the type of the data that a part carries.
+/// Two definitions say when the Z and Y flags of a frame's parts fit together: one in `forwarding_model`, the other in `obu_element`. The two are
+/// equivalent. Each crate also has a definition for parts whose last element may be unfinished, and these two are equivalent as well. `Brought` is the
+/// type of the data that a part carries.
 pub fn parts_join_as_their_packets_do<Brought>()
     ensures whole { PartsJoinAsPackets Brought }
     ensures so_far { PartsJoinSoFarAsPackets Brought }

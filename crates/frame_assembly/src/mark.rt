@@ -1,9 +1,9 @@
 // The input of frame assembly for each packet (a mark), and the outcome of a mark.
 
-/// The next item in the order of a layered track, as the assembly of frames needs it.
+/// The next item in the order of a layered track: a packet, or a gap. A mark has only what frame assembly needs.
 #[derive(Clone, Copy, Debug, PartialEq, Eq)]
 pub enum Mark {
-    /// Packets are missing here, and were given up.
+    /// Packets are missing here, and are no longer waited for.
     Gone,
     /// A packet without a payload.
     Pad,
@@ -27,11 +27,11 @@ pub enum Mark {
 /// The effect of a mark on the frame under assembly.
 #[derive(Clone, Copy, Debug, PartialEq, Eq)]
 pub enum Outcome {
-    /// The frame so far isn't complete yet.
+    /// The frame isn't complete yet.
     Partial,
     /// The frame is complete.
     Whole,
-    /// No frame is under assembly any more. This packet and the frame's earlier packets are dropped.
+    /// This packet and the earlier packets of the frame under assembly are dropped. No frame is under assembly any more.
     Torn,
     /// The packet is padding. An unfinished frame stays as it is.
     Pad,

@@ -11,10 +11,10 @@ use std::mem;
 /// The largest number of packets of a frame (own rule).
 pub const MOST_PACKETS: usize = 512;
 
-/// The first packets of a frame, up to this number, are swapped in. Later packets are copied.
+/// How many packets of a frame are swapped in: the first 32. Later packets are copied.
 const SWAPPED: usize = 32;
 
-/// Up to 512 packets. Contracts see the list of the packets' bytes.
+/// A list of up to 512 packets. Contracts see the bytes of each packet.
 #[derive(Drop)]
 pub struct Packets {
     // the slots of the first 32 packets, which are swapped with the callers' slots
@@ -67,7 +67,7 @@ impl Packets {
         self.count = 0;
     }
 
-    /// Adds a packet. If it is one of the first 32, its slot is swapped in; otherwise the packet is copied.
+    /// Adds a packet. If it is one of the first 32 packets, `slot` is swapped with one of the list's slots. Otherwise the packet's bytes are copied.
     pub fn push(&mut self, slot: &mut Box<PacketSlot>)
         requires { length self.old < 512 }
         ensures { self.new ≡ self.old ++ slot.old.value ∷ [] }

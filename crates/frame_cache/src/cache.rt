@@ -15,22 +15,21 @@ use packet_format::Remasker;
 use sfu_base::{NoMemory, PacketBuf};
 use std::alloc::Global;
 
-/// The largest number of packets of a frame that are shared. This is the capacity of a subscriber's queue, because no frame with more packets is forwarded.
+/// At most this many packets of a frame are shared. A subscriber's queue has the same capacity, so a frame with more packets is never forwarded.
 const MOST_SHARED: usize = 512;
 
-/// The number of buffers that a store has for two or more subscribers, in addition to those for each subscriber.
-const FIRST: usize = 640;
+/// Each subscriber of a track from the second to the 16th adds this many buffers to the store. A join touches the memory of the buffers that it adds, so
+/// the number is small: making them takes about 0.1 ms. With ten or more subscribers, all the 1,024 packets that subscribers with the same wish keep can be
+/// shared.
+const EARLY: usize = 116;
 
-/// The number of buffers that each of the first 15 subscribers adds. Subscribers with the same wish share the 1,024 packets that each of them
-/// keeps. With different wishes, up to 15 subscribers may keep different packets.
-const EARLY: usize = 256;
-
-/// The number of further buffers that each subscriber adds, for packets with its own mask or packets that are queued only for it.
+/// Each subscriber of a track from the second to the 256th adds this many further buffers, for packets that are sent only to that subscriber.
 const OWN: usize = 12;
 
-/// Caches the packets of the current frame that are sent to the subscribers of a track. Each packet is stored once for all subscribers that get it.
-/// The cache also has the first packet rewritten with one mask of active decode targets. Only the mask that was requested last is cached, because
-/// most subscribers of a frame get the same mask. The cache doesn't change what is sent. `packet` is overwritten in place, and never cleared.
+/// Caches those packets of a track's current frame that are sent to subscribers. A shared packet is stored once for all subscribers that get it. The cache
+/// also has a copy of the frame's first packet with another mask of active decode targets. There is only one such copy, for the mask that was requested
+/// last, because most subscribers of a frame get the same mask. The cache doesn't change what is sent. The rewritten copy is in `packet`, which is
+/// overwritten in place and never cleared.
 #[derive(Drop)]
 pub struct FrameCache {
     pub store: PacketStore,
@@ -40,12 +39,15 @@ pub struct FrameCache {
     pub packet: PacketBuf,
     // `packet`, once it is shared
     remasked: Option<SharedPacket>,
+    // whether a packet of the frame found no free buffer; further packets of the frame are then copied
+    full: bool,
     remasker: Remasker,
     ghost remasked_is: { IfSome remasked (λ shared. shared ≡ packet) } by { Prim.hlevel props },
 }
 
 impl FrameCache {
-    /// An empty cache, whose store has no buffers. Allocates the list for 512 shared packets, or returns `NoMemory`.
+    /// Returns an empty cache, whose store has no buffers. Allocates the list of shared packets, with capacity for 512. Returns `NoMemory` if memory runs
+    /// out.
     pub fn new(alloc: Global) -> Result<FrameCache, NoMemory>
         ensures mask { IfOk result (λ cache. cache.mask ≡ None) }
         ensures shared { IfOk result (λ cache. cache.shared.items ≡ []) }
@@ -61,13 +63,14 @@ impl FrameCache {
             mask: None,
             packet: PacketBuf::new(),
             remasked: None,
+            full: false,
             remasker: Remasker::new(),
         })
     }
 
-    /// Allocates buffers until the store has enough for this number of subscribers. The buffers are for queued packets, for packets that
-    /// subscribers with different wishes keep, and for some packets of a single subscriber. One subscriber alone needs no buffers, because its
-    /// packets are copied into its ring. Returns `NoMemory` if memory runs out; some buffers may have been allocated by then.
+    /// Makes sure that the store has enough buffers for this many subscribers: 128 for each from the second to the 16th, and 12 for each further one. Allocates
+    /// only the missing buffers. While no buffer is free, packets are copied into the rings. Returns `NoMemory` if memory runs out. Some buffers may have been added
+    /// before that.
     pub fn reserve(&mut self, alloc: Global, subscribers: usize) -> Result<(), NoMemory>
         ensures free { self.old.store.free ≤ self.new.store.free }
         ensures grown { self.new.store.free + self.old.store.all ≡ self.old.store.free + self.new.store.all }
@@ -77,7 +80,8 @@ impl FrameCache {
         self.store.grow(alloc, capacity_for(subscribers))
     }
 
-    /// Releases the packets of a ring that is no longer used. Deallocates free buffers that the `left` remaining subscribers don't need.
+    /// Releases the packets of a ring that is no longer used. `left` is the number of remaining subscribers. Free buffers that they don't need are
+    /// deallocated.
     pub fn release(&mut self, ring: OutRing, left: usize)
         ensures all { self.new.store.all ≤ self.old.store.all }
         ensures kept { capacity_for left ≤ self.old.store.all → capacity_for left ≤ self.new.store.all }
@@ -87,13 +91,14 @@ impl FrameCache {
         self.store.shrink(capacity_for(left));
     }
 
-    /// Empties the cache before another frame begins.
+    /// Empties the cache. This is done before another frame begins.
     pub fn forget(&mut self)
         ensures mask { self.new.mask ≡ None }
         ensures shared { self.new.shared.items ≡ [] }
         ensures all { self.new.store.all ≡ self.old.store.all }
     {
         self.mask = None;
+        self.full = false;
         if let Some(packet) = self.remasked.take() {
             self.store.release(packet);
         }
@@ -102,7 +107,8 @@ impl FrameCache {
         }
     }
 
-    /// Shares the packet at this place of the frame, if all packets before it are shared and a buffer is free. Out of line: it is called once per packet.
+    /// Shares the frame's packet with index `place`, if all packets of the frame before this one are shared and a buffer is free. Out of line: the function
+    /// is called once per packet.
     #[inline(never)]
     pub fn share(&mut self, place: u16, packet: &[u8])
         requires reads { first_fault packet.now ≡ None }
@@ -112,14 +118,16 @@ impl FrameCache {
         ensures packet { self.new.packet ≡ self.old.packet }
         ensures all { self.new.store.all ≡ self.old.store.all }
     {
-        if self.shared.len() == usize::from(place) && self.shared.len() < self.shared.capacity() {
-            if let Some(packet) = self.store.put(packet) {
-                self.shared.push_reserved(packet);
+        let is_next = self.shared.len() == usize::from(place);
+        if is_next && self.shared.len() < self.shared.capacity() && !self.full {
+            match self.store.put(packet) {
+                Some(packet) => self.shared.push_reserved(packet),
+                None => self.full = true,
             }
         }
     }
 
-    /// Queues the packet at this place of the frame in the ring. The packet is shared if possible, and otherwise copied.
+    /// Appends the frame's packet with index `place` to the ring's queue. The packet is shared if possible, and otherwise copied.
     #[inline(always)]
     pub fn queue(&mut self, ring: &mut OutRing, place: u16, packet: &[u8], marker: bool)
         requires capacity { length ring.old.queued < 512 }
@@ -133,8 +141,8 @@ impl FrameCache {
         ensures all { self.new.store.all ≡ self.old.store.all }
     {
         evict(&mut self.store, ring);
-        // This condition is checked here and not in `share`, because all subscribers but the first find the packet shared already.
-        if self.shared.len() == usize::from(place) {
+        // This condition is checked here too, because most subscribers find the packet shared already, or no buffer free.
+        if self.shared.len() == usize::from(place) && !self.full {
             self.share(place, packet);
         }
         match another(self.shared.get(usize::from(place))) {
@@ -143,7 +151,7 @@ impl FrameCache {
         }
     }
 
-    /// Queues the packet that [`FrameCache::remask`] cached. The packet is shared if possible, and otherwise copied.
+    /// Appends the packet that [`FrameCache::remask`] cached to the ring's queue. The packet is shared if possible, and otherwise copied.
     pub fn queue_remasked(&mut self, ring: &mut OutRing, marker: bool)
         requires capacity { length ring.old.queued < 512 }
         requires reads { first_fault self.old.packet ≡ None }
@@ -155,8 +163,9 @@ impl FrameCache {
         ensures all { self.new.store.all ≡ self.old.store.all }
     {
         evict(&mut self.store, ring);
-        if self.remasked.is_none() {
+        if self.remasked.is_none() && !self.full {
             self.remasked = self.store.put(self.packet.bytes());
+            self.full = self.remasked.is_none();
         }
         match another(self.remasked.as_ref()) {
             Some(shared) => push_shared(&mut self.store, ring, shared, marker),
@@ -164,8 +173,9 @@ impl FrameCache {
         }
     }
 
-    /// Rewrites the current frame's first packet with this mask and caches it. A packet that can't be rewritten is cached unchanged. If a packet with
-    /// this mask is cached already, nothing changes. `id` is the header extension id of the dependency descriptor, which is read with `force`.
+    /// Puts this mask of active decode targets into a copy of the current frame's first packet, and caches the copy. A packet that can't be rewritten is
+    /// cached unchanged. If a copy with this mask is cached already, nothing changes. `id` is the header extension id of the dependency descriptor. The
+    /// descriptor is read with the structure `force`.
     pub fn remask(&mut self, packet: &[u8], id: u8, force: Option<&Structure>, mask: u32)
         requires reads { first_fault packet.now ≡ None }
         requires fits { length packet.now ≤ 1536 }
@@ -246,13 +256,14 @@ fn push_shared(store: &mut PacketStore, ring: &mut OutRing, packet: SharedPacket
     }
 }
 
-// How many buffers a store has for this number of subscribers. Fewer than two need none.
+// How many buffers the store has for this many subscribers.
 fn capacity_for(subscribers: usize) -> usize
     ensures count { result ≡ capacity_for subscribers }
-    ensures few { result ≤ 640 + 268 * subscribers }
+    ensures few { result ≤ 4800 }
 {
     if subscribers < 2 {
         return 0;
     }
-    FIRST + EARLY * subscribers.min(15) + OWN * subscribers.min(256)
+    let others = subscribers - 1;
+    EARLY * others.min(15) + OWN * others.min(255)
 }

@@ -39,7 +39,8 @@ fn counts(place: u8, count: u8) -> bool
     counts_in(COUNTED, place, count)
 }
 
-/// The first `count` indications, followed by `NotPresent`. All places are written, so that the compiler writes many at once.
+/// Returns the first `count` indications of `row`, and `NotPresent` in all other places. Every place is written, because the compiler can then write many
+/// places at once.
 pub fn prefix_indications(row: &[Dti; 32], count: u8) -> [Dti; 32]
     requires { count ≤ 32 }
     ensures { result ≡ filled_up 32 NotPresent (take count row.now) }
@@ -52,7 +53,7 @@ pub fn prefix_indications(row: &[Dti; 32], count: u8) -> [Dti; 32]
     out
 }
 
-/// The first `count` numbers, followed by zeros. All places are written, so that the compiler writes many at once.
+/// Returns the first `count` numbers of `row`, and 0 in all other places. Every place is written, because the compiler can then write many places at once.
 pub fn prefix_numbers(row: &[u8; 32], count: u8) -> [u8; 32]
     requires { count ≤ 32 }
     ensures { result ≡ filled_up 32 0 (take count row.now) }
@@ -65,8 +66,8 @@ pub fn prefix_numbers(row: &[u8; 32], count: u8) -> [u8; 32]
     out
 }
 
-/// The first `count` distances, followed by zeros. All places are written, so that the compiler writes many at once. `count` is at most 16, the
-/// length of the row.
+/// Returns the first `count` distances of `row`, and 0 in all other places. Every place is written, because the compiler can then write many places at
+/// once. `count` is at most 16, the length of the row.
 pub fn prefix_distances(row: &[u16; 16], count: u8) -> [u16; 16]
     requires { count ≤ 16 }
     ensures filled { result ≡ filled_up 16 0 (take count row.now) }
@@ -80,7 +81,7 @@ pub fn prefix_distances(row: &[u16; 16], count: u8) -> [u16; 16]
     out
 }
 
-/// The numbers, followed by zeros.
+/// Returns the numbers of `row`, and 0 in all other places.
 pub fn filled_numbers(row: &[u8]) -> [u8; 32]
     requires { length row.now ≤ 32 }
     ensures { result ≡ filled_up 32 0 row.now }
@@ -90,7 +91,7 @@ pub fn filled_numbers(row: &[u8]) -> [u8; 32]
     out
 }
 
-/// The greatest spatial and temporal id of each decode target of the structure, followed by `None`.
+/// Returns the greatest spatial id and the greatest temporal id of each decode target of the structure. All places after the last target are `None`.
 pub fn filled_pairs(structure: &Structure) -> [Option<Wish>; 32]
     ensures { result ≡ filled_up 32 None (pairs_below structure.now structure.now.target_count) }
 {

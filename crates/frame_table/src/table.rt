@@ -23,16 +23,16 @@ use wrap_number::above;
 /// How a descriptor relates to the structure in force.
 #[derive(Clone, Copy, Debug, PartialEq, Eq)]
 pub enum Reading {
-    /// The descriptor begins a key frame. Its structure is in force now.
+    /// The descriptor begins a key frame. The descriptor's structure is now in force.
     Key,
     /// The descriptor doesn't begin a key frame, and is read with the structure in force.
     Part,
-    /// The descriptor doesn't begin a key frame and carries a structure that differs from the one in force, so it isn't read.
+    /// The descriptor isn't read. It doesn't begin a key frame, and it carries a structure that differs from the structure in force.
     Unread,
 }
 
-/// The number of a complete frame isn't above the newest frame number, so the frame is ignored (own rule). A number is above another number if
-/// it is 1 to 32,767 more, modulo 65,536.
+/// A complete frame is ignored, because it isn't a key frame and its number isn't above the newest frame number (own rule). A number is above another
+/// number if it is greater by 1 to 32,767, modulo 65,536.
 #[derive(Clone, Copy, Debug, PartialEq, Eq, Error)]
 #[error("the frame's number isn't above {newest}, the newest")]
 pub struct Stale {
@@ -40,8 +40,8 @@ pub struct Stale {
     pub newest: u64,
 }
 
-/// The parts of a frame's first descriptor from which the frame's meaning is made. Only the first entries of each array are used, as in the
-/// meaning: one for each decode target, chain or reference.
+/// The parts of a frame's first descriptor that are needed to make the frame's meaning. Each array is used from index 0 on: one entry for each decode
+/// target, chain or reference. The remaining entries aren't used. The same is true of `FrameMeaning`.
 #[derive(Clone, Copy, Debug, PartialEq, Eq)]
 pub struct FrameHead {
     /// Whether the frame is a key frame: its first descriptor carries a structure and has no references.
@@ -52,9 +52,10 @@ pub struct FrameHead {
     pub spatial: u8,
     /// Temporal id, 0 to 7.
     pub temporal: u8,
-    /// The frame's indication for each decode target.
+    /// The frame's decode target indication (DTI) for each decode target.
     pub dtis: [Dti; 32],
-    /// For each chain, the distance in frame numbers back to the chain's previous frame, or 0 if no previous frame is needed.
+    /// For each chain, the distance in frame numbers back to the chain's previous frame (frame_chain_fdiff). The distance is 0 if no previous frame is
+    /// needed.
     pub links: [u8; 32],
     /// How many frames this frame refers to, at most 16.
     pub ref_count: u8,
@@ -62,7 +63,8 @@ pub struct FrameHead {
     pub refs: [u16; 16],
 }
 
-/// The state that is in force on a layered track (RTP Payload Format For AV1, Appendix A). The rules for epochs and stale numbers are own rules.
+/// The state that is in force on a layered track (RTP Payload Format For AV1, Appendix A). The rules for epochs and for stale numbers are own rules, which
+/// aren't in that document.
 #[derive(Debug, Drop)]
 pub struct FrameTable {
     structure: Option<Structure>,
@@ -77,7 +79,7 @@ pub struct FrameTable {
     newest: u64,
 }
 
-/// A placeholder that is to be overwritten. No frame has this meaning.
+/// A placeholder, to be overwritten with the meaning of a frame. No frame has the placeholder's meaning.
 pub const NO_MEANING: FrameMeaning = FrameMeaning {
     number: 0,
     start: 0,
@@ -96,7 +98,7 @@ pub const NO_MEANING: FrameMeaning = FrameMeaning {
     refs: [0; 16],
 };
 
-/// A frame number may be at most this far above the newest frame number, modulo 65,536. A number that is farther above counts as below the newest.
+/// A frame number is above the newest frame number if it is 1 to this many numbers more, modulo 65,536. Any other number isn't above the newest.
 const FARTHEST_AHEAD: u64 = 32767;
 
 impl Model for FrameTable {
@@ -113,7 +115,7 @@ impl Model for FrameTable {
 }
 
 impl FrameTable {
-    /// A table before the first key start, when nothing is in force.
+    /// Returns the table of a track without a key start. Nothing is in force.
     pub fn new() -> FrameTable
         ensures { result ≡ no_force }
     {
@@ -137,9 +139,10 @@ impl FrameTable {
         self.structure.as_ref()
     }
 
-    /// Processes the next descriptor, which was read with the structure in force. A key start is a descriptor with a structure, the start bit and no
-    /// references. A key start puts its structure in force, begins an epoch, and sets the newest frame number. Any other descriptor with a structure that
-    /// differs from the one in force is `Unread` and changes nothing. If a descriptor that is read has a mask, the mask is in force from then on.
+    /// Processes the next descriptor, which was read with the structure in force. A key start is a descriptor with a structure, the start bit
+    /// (start_of_frame) and no references. A key start puts its structure in force, begins an epoch, and sets the newest frame number. Any other descriptor
+    /// is `Unread`, and changes nothing, if it carries a structure that differs from the structure in force. A mask in a descriptor that isn't `Unread` is
+    /// in force from then on.
     pub fn see(&mut self, descriptor: &Descriptor) -> Reading
         requires read { IsReadBy self.old.structure descriptor.now }
         requires bound { IfSome self.old.structure (λ _. self.old.newest < 2 ^ 63) }
@@ -168,9 +171,10 @@ impl FrameTable {
         }
     }
 
-    /// Returns the meaning of a frame that has just become complete. `first` is the frame's first descriptor. All descriptors of the frame must
-    /// have been passed to [`FrameTable::see`] and read. The frame's number becomes the newest. Returns `Stale` and changes nothing if the
-    /// number isn't above the newest. This call does the same as [`FrameTable::head`] and then [`FrameTable::whole_into`].
+    /// Returns the meaning of a frame that has just become complete. `first` is the frame's first descriptor. Before this call, all descriptors of the
+    /// frame must have been passed to [`FrameTable::see`], and none of them may have been `Unread`. The frame's number becomes the newest frame number. If
+    /// the frame isn't a key frame and its number isn't above the newest frame number, the call returns `Stale` and changes nothing. This call does the
+    /// same as [`FrameTable::head`] followed by [`FrameTable::whole_into`].
     pub fn whole(&mut self, first: &Descriptor) -> Result<FrameMeaning, Stale>
         requires first { IsFirst self.old first.now }
         requires bound { self.old.newest < 2 ^ 63 }
@@ -185,7 +189,8 @@ impl FrameTable {
         or_stale(is_whole, meaning, newest)
     }
 
-    /// Returns the parts of a frame's first descriptor from which the frame's meaning is made. Only these must be kept until the frame is complete.
+    /// Returns the parts of a frame's first descriptor that are needed to make the frame's meaning. Until the frame is complete, only these parts must be
+    /// kept.
     pub fn head(&self, first: &Descriptor) -> FrameHead
         requires { IsFirst self.now first.now }
         ensures head { result ≡ head_of (said_of self.now.structure first.now) }
@@ -196,8 +201,9 @@ impl FrameTable {
         self.fields(first, key)
     }
 
-    /// Writes to `out` the meaning of a frame that has just become complete, and makes the frame's number the newest. `head` is from the
-    /// frame's first descriptor. Returns false and changes nothing if the frame is stale, that is, if its number isn't above the newest.
+    /// Writes the meaning of a frame that has just become complete to `out`, and returns true. The frame's number becomes the newest frame number.
+    /// [`FrameTable::head`] made `head` from the frame's first descriptor. If the frame is stale, returns false and changes nothing. A frame is stale if it
+    /// isn't a key frame and its number isn't above the newest frame number.
     pub fn whole_into(&mut self, head: &FrameHead, out: &mut FrameMeaning) -> bool
         requires structure { is_some self.old.structure ≡ true }
         requires references { HasReferences head.now }

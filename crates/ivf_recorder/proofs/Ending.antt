@@ -82,13 +82,13 @@ calm_content Waiting e = refl
 calm_content (Receiving r) e = refl
 calm_content (Complaining c) e = absurd cc
 
-pub told_structure : (kept m : Receiver TemplateStructure) (s : Option TemplateStructure) → IsReceiverOf kept m → is_receiving m ≡ true
+pub updated_structure : (kept m : Receiver TemplateStructure) (s : Option TemplateStructure) → IsReceiverOf kept m → is_receiving m ≡ true
     → ((r : Reception TemplateStructure) → kept ≡ Receiving r → s ≡ r.structure) → s ≡ structure_in kept
-told_structure (Receiving k) (Receiving r) s same is told = told k refl
-told_structure Waiting (Receiving r) s same is told = absurd same
-told_structure (Complaining c) (Receiving r) s same is told = absurd same
-told_structure kept Waiting s same is told = absurd cc
-told_structure kept (Complaining c) s same is told = absurd cc
+updated_structure (Receiving k) (Receiving r) s same is updated = updated k refl
+updated_structure Waiting (Receiving r) s same is updated = absurd same
+updated_structure (Complaining c) (Receiving r) s same is updated = absurd same
+updated_structure kept Waiting s same is updated = absurd cc
+updated_structure kept (Complaining c) s same is updated = absurd cc
 
 abbrev pub with_open : Gathered → List ℕ → Gathered
 with_open g packet = record { frames = g.frames; unfinished = g.unfinished ++ packet ∷ [] }
@@ -162,8 +162,8 @@ module _ (mid : Recording) (history : List (List ℕ)) (packet : List ℕ) (fed 
   receiving : is_receiving m ≡ true
   receiving = (accepts id packet before (calm_content m (sym (ap complaint_of (received_one id history packet)) ∙ fed.calm))).receiving
 
-  pub structure_told : (s : Option TemplateStructure) → ((r : Reception TemplateStructure) → mid.receiver.receiver ≡ Receiving r → s ≡ r.structure) → s ≡ structure_in mid.receiver.receiver
-  structure_told s told = told_structure mid.receiver.receiver m s same receiving told
+  pub structure_updated : (s : Option TemplateStructure) → ((r : Reception TemplateStructure) → mid.receiver.receiver ≡ Receiving r → s ≡ r.structure) → s ≡ structure_in mid.receiver.receiver
+  structure_updated s updated = updated_structure mid.receiver.receiver m s same receiving updated
 
   is_open : 0 ≡ ends_frame mid.receiver.receiver → gathered_over id (history ++ packet ∷ []) ≡ with_open g packet
   is_open e = gathered_one id history packet ∙ gather_open mid.receiver.receiver m g packet same receiving e
@@ -258,9 +258,9 @@ module _ (mid : Recording) (history : List (List ℕ)) (packet : List ℕ) (fed 
     pub stands_sound : (clear : OpenFrame) (file : IvfFile) (size : Size) → clear.timestamp ≡ None → segments_in clear ≡ no_elements
         → IsFileOf file size (contents_over id history ++ content mid.frame.timestamp obus ∷ []) → size ≡ size_over id (history ++ packet ∷ [])
         → StandsFor (record { receiver = mid.receiver; frame = clear; file = file; fault = mid.fault }) (history ++ packet ∷ [])
-    stands_sound clear file size timestamp elements is told = record {
+    stands_sound clear file size timestamp elements is updated = record {
       fault = fed.fault ∙ sym no_fault;
-      file = subst (λ (s : Size). IsFileOf file s (contents_over id (history ++ packet ∷ []))) told (subst (λ (x : List RecordedFrame). IsFileOf file size x) (sym sound_contents) is);
+      file = subst (λ (s : Size). IsFileOf file s (contents_over id (history ++ packet ∷ []))) updated (subst (λ (x : List RecordedFrame). IsFileOf file size x) (sym sound_contents) is);
       goes = λ _. record {
         receiver = fed.receiver;
         frame = subst (λ (x : Gathered). Holds clear x.unfinished) (sym (is_whole e)) (record { elements = elements; timestamp = timestamp });

@@ -5,7 +5,7 @@ use Rattle.std.specs.Int.{to_le_bytes, w16, w32, w64}
 use Rattle.std.specs.List.{flat_map}
 use Rattle.std.proofs.lemmas.List.{flat_map_more, length-append, same_from_push}
 use Rattle.std.proofs.lemmas.Grind.{common_steps}
-use Rattle.ivf_recorder.specs.Added.{BeginsUnit, IsNextTime, TellsUnit, TellsUnitSize}
+use Rattle.ivf_recorder.specs.Added.{BeginsUnit, IsNextTime, SetsUnit, SetsUnitSize}
 use Rattle.ivf_recorder.specs.Files.{HasNewest, IsNewest}
 use Rattle.ivf_recorder.specs.Units.{RecordedFrame, TemporalUnit, Size, begins, delimiter, grown, header, ivf, joins, most_unit, next_time, rate_bytes, signature, unit_bytes, units_of}
 use Rattle.ivf_recorder.proofs.UnitLemmas.{units_more}
@@ -80,13 +80,13 @@ module _ (size : Size) (contents : List RecordedFrame) (content : RecordedFrame)
       let j : joins n.unit content ≡ true = both_true n.unit.timestamp content.timestamp (nat_le (length n.unit.bytes + length content.bytes) most_unit) (n.timestamp_is ∙ same) le in
       units_more contents content n.closed n.unit n.units ∙ ap (λ (b : Bool). n.closed ++ cond b (grown n.unit content ∷ []) (n.unit ∷ begins (next_time n.unit content) content ∷ [])) j
 
-  pub joined_file : (new : List ℕ) → timestamp ≡ content.timestamp → length mid - at - 12 ≤ most_unit → TellsUnitSize at mid new
+  pub joined_file : (new : List ℕ) → timestamp ≡ content.timestamp → length mid - at - 12 ≤ most_unit → SetsUnitSize at mid new
       → JoinedFile size contents content timestamp time at new
-  joined_file new same fits told =
+  joined_file new same fits updated =
       let us = joined_units same fits in
       let count : length (units_of (contents ++ content ∷ [])) ≡ length (units_of contents) =
       ap length us ∙ (length-append n.closed (grown n.unit content ∷ []) ∙ (sym (length-append n.closed (n.unit ∷ [])) ∙ sym (ap length n.units))) in
-      let put = told front (to_le_bytes w32 (length n.unit.bytes % 2 ^ 32)) tail mid_is front_length refl in
+      let put = updated front (to_le_bytes w32 (length n.unit.bytes % 2 ^ 32)) tail mid_is front_length refl in
       record {
         bytes =
             put ∙ (ap (λ (l : ℕ). front ++ (to_le_bytes w32 (l % 2 ^ 32) ++ tail)) joined_length
@@ -126,7 +126,7 @@ new_unit true contents content timestamp newest_time at time n apart next =
 
 module _ (size : Size) (contents : List RecordedFrame) (content : RecordedFrame) (time count : ℕ) (old mid new : List ℕ) (is : old ≡ ivf size contents)
     (counts : count ≡ length (units_of contents) % 2 ^ 32) (us : units_of (contents ++ content ∷ []) ≡ units_of contents ++ begins time content ∷ [])
-    (laid : mid ≡ old ++ ((to_le_bytes w32 0 ++ (to_le_bytes w64 time ++ delimiter)) ++ content.bytes)) (told : TellsUnit (length old) count mid new) where
+    (laid : mid ≡ old ++ ((to_le_bytes w32 0 ++ (to_le_bytes w64 time ++ delimiter)) ++ content.bytes)) (updated : SetsUnit (length old) count mid new) where
   abbrev n : ℕ
   n = length (units_of contents)
 
@@ -164,7 +164,7 @@ module _ (size : Size) (contents : List RecordedFrame) (content : RecordedFrame)
   pub apart_file : ApartFile size contents content time (length old) count new
   apart_file = record {
     bytes =
-        told head (to_le_bytes w32 (n % 2 ^ 32)) (to_le_bytes w32 0 ++ flat) (to_le_bytes w32 0) rest mid_split refl refl (let l = old_length in omega arith) refl
+        updated head (to_le_bytes w32 (n % 2 ^ 32)) (to_le_bytes w32 0 ++ flat) (to_le_bytes w32 0) rest mid_split refl refl (let l = old_length in omega arith) refl
         ∙ (ap₂ (λ (k l : ℕ). with_unit k (l % 2 ^ 32)) counted_one mid_length
         ∙ (ap (header size (length (units_of (contents ++ content ∷ [])))) (sym (flat_push (units_of contents) (begins time content)))
         ∙ ap (λ (v : List TemporalUnit). header size (length (units_of (contents ++ content ∷ []))) (flat_map unit_bytes v)) (sym us)));

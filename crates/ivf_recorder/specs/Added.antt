@@ -51,12 +51,12 @@ pub record HasSameUnit (old new : IvfFile) : Type 0 where
   pub count : new.count ≡ old.count
 
 -- the size of the newest unit replaces the size in its header
-abbrev pub TellsUnitSize : ℕ → List ℕ → List ℕ → Type 0
-TellsUnitSize at old new = (front size rest : List ℕ) → old ≡ front ++ (size ++ rest) → length front ≡ at → length size ≡ 4
+abbrev pub SetsUnitSize : ℕ → List ℕ → List ℕ → Type 0
+SetsUnitSize at old new = (front size rest : List ℕ) → old ≡ front ++ (size ++ rest) → length front ≡ at → length size ≡ 4
     → new ≡ front ++ (to_le_bytes w32 ((length old - at - 12) % 2 ^ 32) ++ rest)
 
 -- the size of the newest unit is written, and the number of units is one higher
-abbrev pub TellsUnit : ℕ → ℕ → List ℕ → List ℕ → Type 0
-TellsUnit at count old new = (head counted middle size rest : List ℕ) → old ≡ head ++ (counted ++ (middle ++ (size ++ rest)))
+abbrev pub SetsUnit : ℕ → ℕ → List ℕ → List ℕ → Type 0
+SetsUnit at count old new = (head counted middle size rest : List ℕ) → old ≡ head ++ (counted ++ (middle ++ (size ++ rest)))
     → length head ≡ 24 → length counted ≡ 4 → 28 + length middle ≡ at → length size ≡ 4
     → new ≡ head ++ (to_le_bytes w32 ((count + 1) % 2 ^ 32) ++ (middle ++ (to_le_bytes w32 ((length old - at - 12) % 2 ^ 32) ++ rest)))

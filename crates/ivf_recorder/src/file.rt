@@ -8,22 +8,22 @@ use crate::frame::OpenFrame;
 use sfu_base::NoMemory;
 use std::alloc::Global;
 
-/// The largest length of a unit with more than one frame, in bytes, without the unit's header.
+/// The largest length of a unit with more than one frame, in bytes. The unit's header isn't counted.
 const MOST_UNIT: usize = 16_777_216;
 
-/// The offset of the width (two bytes) in the file header. The height (two bytes) follows it.
+/// The offset in the file header, in bytes, of the width (two bytes). The height (two bytes) follows the width.
 const SIZE_AT: usize = 12;
 
-/// The offset of the number of units (four bytes) in the file header.
+/// The offset in the file header, in bytes, of the field with the number of units (four bytes).
 const COUNT_AT: usize = 24;
 
-/// The length of a unit's header: size (4 bytes) and time (8 bytes).
+/// The length of a unit's header in bytes: size (4) and time (8).
 const UNIT_HEADER: usize = 12;
 
 /// The number of bytes of a new unit before its first frame: size (4), time (8), temporal delimiter (2).
 const UNIT_FRONT: usize = 14;
 
-/// The file header, with width, height and number of units 0.
+/// The file header. The width, the height and the number of units are 0.
 const HEADER: [u8; 32] = [
     b'D', b'K', b'I', b'F', 0, 0, 32, 0, b'A', b'V', b'0', b'1', 0, 0, 0, 0, 0x90, 0x5f, 0x01, 0,
     1, 0, 0, 0, 0, 0, 0, 0, 0, 0, 0, 0,
@@ -33,7 +33,7 @@ const HEADER: [u8; 32] = [
 #[derive(Clone, Copy)]
 pub enum Growth {
     Grown,
-    /// The unit would get too long, so it is unchanged.
+    /// The unit would get too long. Nothing changed.
     TooLong,
     /// An element of the frame isn't an OBU. Nothing changed.
     Unsound,
@@ -43,13 +43,13 @@ pub enum Growth {
 #[derive(Drop)]
 pub struct IvfFile {
     pub bytes: Vec<u8>,
-    /// Whether there is a unit.
+    /// Whether the file has a unit.
     pub begun: bool,
     /// The offset in the file at which the newest unit begins.
     pub at: usize,
     /// The RTP timestamp of the newest unit.
     pub timestamp: u32,
-    /// The time of the newest unit, in ticks since the first unit.
+    /// The time of the newest unit, in ticks of the RTP clock since the first unit.
     pub time: u64,
     /// How many units there are, modulo 2^32.
     pub count: u32,
@@ -76,7 +76,7 @@ fn unit_front(time: u64) -> [u8; UNIT_FRONT]
 }
 
 impl IvfFile {
-    ghost use Rattle.ivf_recorder.specs.Added.{Adds, BeginsUnit, Grows, HasSameUnit, IsNextTime, TellsUnit, TellsUnitSize, content, timestamp_in};
+    ghost use Rattle.ivf_recorder.specs.Added.{Adds, BeginsUnit, Grows, HasSameUnit, IsNextTime, SetsUnit, SetsUnitSize, content, timestamp_in};
     ghost use Rattle.ivf_recorder.specs.declared.file.Growth.TheVariants as Growth;
     ghost use Rattle.ivf_recorder.specs.Files.{IsFileOf, IsSameBut};
     ghost use Rattle.ivf_recorder.specs.Laid.{most_bytes, segments_in};
@@ -97,7 +97,7 @@ impl IvfFile {
         })
     }
 
-    /// Reserves memory for a frame whose OBUs have at most `most` bytes. The contents of the file don't change.
+    /// Reserves memory for one more frame. All OBUs of the frame together have at most `most` bytes. The contents of the file don't change.
     pub fn reserve(&mut self, most: usize) -> Result<(), NoMemory>
         requires { UNIT_FRONT + most < 2 ^ 64 }
         ensures ok { OnOk result (vec_len self.new.bytes + (UNIT_FRONT + most) ≤ vec_capacity self.new.bytes) }
@@ -109,9 +109,10 @@ impl IvfFile {
         }
     }
 
-    /// Appends a frame, for which memory must be reserved. If an element of the frame isn't an OBU, returns false and changes nothing.
+    /// Appends a frame. Memory for the frame must be reserved before this call. If an element of the frame isn't an OBU, returns false and changes
+    /// nothing.
     pub fn add(&mut self, frame: &OpenFrame) -> bool
-        requires room { vec_len self.old.bytes + (UNIT_FRONT + most_bytes frame.now) ≤ vec_capacity self.old.bytes }
+        requires capacity { vec_len self.old.bytes + (UNIT_FRONT + most_bytes frame.now) ≤ vec_capacity self.old.bytes }
         ensures { (size : Size) (contents : List RecordedFrame) → IsFileOf self.old size contents
             → Adds result frame.now.timestamp (obus_in (segments_in frame.now)) size contents self.new }
     {
@@ -128,7 +129,7 @@ impl IvfFile {
 
     // Appends a frame to the newest unit, which must have the frame's timestamp.
     fn grow(&mut self, frame: &OpenFrame) -> Growth
-        requires room { vec_len self.old.bytes + most_bytes frame.now ≤ vec_capacity self.old.bytes }
+        requires capacity { vec_len self.old.bytes + most_bytes frame.now ≤ vec_capacity self.old.bytes }
         requires begun { self.old.begun ≡ true }
         requires timestamp { timestamp_in frame.now.timestamp ≡ self.old.timestamp }
         ensures grows { (size : Size) (contents : List RecordedFrame) → IsFileOf self.old size contents
@@ -144,13 +145,13 @@ impl IvfFile {
             self.bytes.truncate(start);
             return Growth::TooLong;
         }
-        self.tell_unit_size();
+        self.set_unit_size();
         Growth::Grown
     }
 
     // Appends a frame as a new unit. If an element of the frame isn't an OBU, returns false.
     fn add_apart(&mut self, timestamp: u32, frame: &OpenFrame) -> bool
-        requires room { vec_len self.old.bytes + (UNIT_FRONT + most_bytes frame.now) ≤ vec_capacity self.old.bytes }
+        requires capacity { vec_len self.old.bytes + (UNIT_FRONT + most_bytes frame.now) ≤ vec_capacity self.old.bytes }
         requires timestamp { timestamp_in frame.now.timestamp ≡ timestamp }
         ensures { (size : Size) (contents : List RecordedFrame) → IsFileOf self.old size contents
             → ((obus : List Obu) → obus_in (segments_in frame.now) ≡ Some obus → BeginsUnit contents (content frame.now.timestamp obus))
@@ -166,8 +167,8 @@ impl IvfFile {
     }
 
     // Writes the size of the newest unit into the unit's header.
-    fn tell_unit_size(&mut self)
-        ensures told { TellsUnitSize self.old.at self.old.bytes.items self.new.bytes.items }
+    fn set_unit_size(&mut self)
+        ensures updated { SetsUnitSize self.old.at self.old.bytes.items self.new.bytes.items }
         ensures same { HasSameUnit self.old self.new }
         ensures len { vec_len self.new.bytes ≡ vec_len self.old.bytes }
     {
@@ -193,7 +194,7 @@ impl IvfFile {
     // Makes the unit at offset `at` the newest one, and writes its size and the new number of units.
     fn begin(&mut self, at: usize, timestamp: u32, time: u64)
         requires within { at + UNIT_FRONT ≤ vec_len self.old.bytes }
-        ensures told { TellsUnit at self.old.count self.old.bytes.items self.new.bytes.items }
+        ensures updated { SetsUnit at self.old.count self.old.bytes.items self.new.bytes.items }
         ensures begun { self.new.begun ≡ true }
         ensures at { self.new.at ≡ at }
         ensures timestamp { self.new.timestamp ≡ timestamp }
@@ -204,14 +205,14 @@ impl IvfFile {
         self.at = at;
         self.timestamp = timestamp;
         self.time = time;
-        self.tell_unit_size();
+        self.set_unit_size();
         self.count = self.count.wrapping_add(1);
         put_at(&mut self.bytes, COUNT_AT, &self.count.to_le_bytes());
     }
 
-    /// Writes a width and a height in pixels into the header, each modulo 65,536.
-    pub fn tell_size(&mut self, width: u32, height: u32)
-        ensures told { (size : Size) (contents : List RecordedFrame) → IsFileOf self.old size contents
+    /// Writes the width modulo 65,536 and the height modulo 65,536 into the header, in pixels.
+    pub fn set_size(&mut self, width: u32, height: u32)
+        ensures updated { (size : Size) (contents : List RecordedFrame) → IsFileOf self.old size contents
             → IsFileOf self.new (record { width = width; height = height }) contents }
     {
         put_at(

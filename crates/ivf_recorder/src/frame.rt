@@ -8,8 +8,9 @@ use av1_payload::PayloadElements;
 use sfu_base::NoMemory;
 use std::alloc::Global;
 
-/// The elements of an unfinished frame's packets. `bytes` has their bytes, concatenated, and `cuts` the offsets at which elements begin. Bytes
-/// before the first offset belong to an element that began before the frame. An accepted frame has no such bytes.
+/// The elements in the packets of an unfinished frame. `bytes` is the concatenation of the elements. `cuts` has the offset in `bytes` at which each
+/// element begins. Bytes before the first offset belong to an element that began before the frame. A frame that the strict receiver accepts has no such
+/// bytes.
 #[derive(Drop)]
 pub struct OpenFrame {
     /// The RTP timestamp of the frame's first packet, or `None` before the first packet.
@@ -19,7 +20,7 @@ pub struct OpenFrame {
     ghost within: { are_cuts 0 cuts.items (vec_len bytes) ≡ true },
 }
 
-/// A state of an unfinished frame that can be restored: its timestamp, and the lengths of its vectors.
+/// An earlier state of an unfinished frame, to which the frame can return: its timestamp, and the lengths of its vectors.
 #[derive(Clone, Copy)]
 pub struct Mark {
     pub timestamp: Option<u32>,
@@ -46,8 +47,8 @@ impl OpenFrame {
         }
     }
 
-    /// Appends the elements of the next packet. If the packet isn't RTP or its payload isn't well formed, nothing changes. After `NoMemory`,
-    /// some of the elements may have been appended.
+    /// Appends the elements of the next packet. Changes nothing if the packet isn't RTP, or if its payload isn't well formed. After `NoMemory`, some of
+    /// the elements may have been appended.
     pub fn take(&mut self, packet: &[u8]) -> Result<(), NoMemory>
         ensures taken { OnOk result (IsReadable packet.now → HasTaken self.old self.new packet.now) }
         ensures grown { Grown self.old self.new }
@@ -130,7 +131,7 @@ impl OpenFrame {
         }
     }
 
-    /// Removes everything that was appended since this mark.
+    /// Restores the state that `mark` describes: removes everything that was appended since then.
     pub fn back_to(&mut self, mark: Mark)
         requires within { are_cuts 0 (take mark.cuts self.old.cuts.items) mark.bytes ≡ true }
         requires bytes { mark.bytes ≤ vec_len self.old.bytes }
@@ -143,7 +144,7 @@ impl OpenFrame {
         self.bytes.truncate(mark.bytes);
     }
 
-    /// Removes all packets, for the next frame.
+    /// Removes all elements. The next frame can then be gathered.
     pub fn clear(&mut self)
         ensures timestamp { self.new.timestamp ≡ None }
         ensures elements { segments_in self.new ≡ no_elements }
@@ -153,7 +154,7 @@ impl OpenFrame {
         self.bytes.clear();
     }
 
-    /// An upper bound of the number of bytes of the frame's OBUs, including their size fields.
+    /// An upper bound for the total length of the frame's OBUs in bytes, size fields included.
     pub fn most_bytes(&self) -> usize
         ensures most { result ≡ most_bytes self.now }
         ensures small { result < 2 ^ 64 - 2 ^ 32 }
@@ -166,7 +167,7 @@ impl OpenFrame {
 
     // Appends the frame's OBUs. Stops, and returns false, at the first element that isn't an OBU.
     fn lay_all(&self, out: &mut Vec<u8>) -> bool
-        requires room { vec_len out.old + most_bytes self.now ≤ vec_capacity out.old }
+        requires capacity { vec_len out.old + most_bytes self.now ≤ vec_capacity out.old }
         ensures lays { LaysOr result (obus_in (segments_in self.now)) out.old.items out.new.items }
         ensures grown { vec_len out.old ≤ vec_len out.new }
         ensures most { vec_len out.new ≤ vec_len out.old + most_bytes self.now }
@@ -185,9 +186,10 @@ impl OpenFrame {
         append_obu(left, out)
     }
 
-    /// Appends `head` and the frame's OBUs; `out` must have capacity for both. If an element isn't an OBU, returns false and appends nothing.
+    /// Appends `head`, and then the frame's OBUs, to `out`. `out` must have capacity for both. If an element isn't an OBU, returns false and appends
+    /// nothing.
     pub fn lay(&self, head: &[u8], out: &mut Vec<u8>) -> bool
-        requires room { vec_len out.old + length head.now + most_bytes self.now ≤ vec_capacity out.old }
+        requires capacity { vec_len out.old + length head.now + most_bytes self.now ≤ vec_capacity out.old }
         ensures lays { Lays result head.now (obus_in (segments_in self.now)) out.old.items out.new.items }
         ensures grown { vec_len out.old ≤ vec_len out.new }
         ensures head { result ≡ true → vec_len out.old + length head.now ≤ vec_len out.new }

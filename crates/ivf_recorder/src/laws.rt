@@ -8,20 +8,20 @@ ghost use Rattle.ivf_recorder.specs.Obus.{Obu};
 ghost use Rattle.ivf_recorder.specs.ReadFiles.{IsFileWith};
 ghost use Rattle.ivf_recorder.specs.Units.{no_size, units_of};
 
-/// A law: a file can be read as at most one list of OBUs. Temporal delimiters and size fields aren't part of the list.
+/// A law: no file can be read as two different lists of OBUs. Temporal delimiters and size fields aren't part of such a list.
 pub fn files_have_one_reading()
     ensures one { (bytes : List ℕ) (obus others : List Obu) → IsFileWith bytes obus → IsFileWith bytes others → obus ≡ others }
 {}
 
-/// A law about packets of at most 2,048 bytes each: the file recorded from them is read as the OBUs of the recorded frames, each once and in
-/// order. The size of each unit fits into its field of four bytes.
+/// A law about packets of at most 2,048 bytes each. The file that is recorded from them is read as the OBUs of the recorded frames. Each OBU is read once,
+/// and the OBUs are in order. The size of each unit fits into its field of four bytes.
 pub fn files_read_back()
     ensures read { (id : ℕ) (history : List (List ℕ)) → AreShort history → IsFileWith (ivf_over id history) (obus_over id history) }
     ensures sizes { (id : ℕ) (history : List (List ℕ)) → AreShort history
         → AllByRecursion (λ unit. length unit.bytes < 2 ^ 32) (units_of (contents_over id history)) }
 {}
 
-/// A law: from any packets, the recorder gathers exactly the number of frames that a strict receiver of these packets counts.
+/// A law about any packets: the number of frames that the recorder gathers equals the number of frames that a strict receiver of these packets counts.
 pub fn frames_are_those_that_are_accepted()
     ensures count { (id : ℕ) (history : List (List ℕ)) → length (gathered_over id history).frames ≡ frames_over id history }
 {}

@@ -1,6 +1,6 @@
-//! Records the packets of one layered AV1 track as an IVF file. The file has the OBUs of the frames that a strict receiver of the packets
-//! accepts. Sources: RTP Payload Format For AV1, sections 4.4 (elements) and 5 (temporal units), and AV1 Bitstream Specification, sections
-//! 5.3.1 to 5.3.3 (OBUs) and 4.10.5 (leb128). There is no standard for IVF; the recorder writes the format that `dav1d` and `ffmpeg` read.
+//! Records the packets of one layered AV1 track as an IVF file. The file has the OBUs of the frames that a strict receiver of these packets accepts.
+//! Sources: RTP Payload Format For AV1, sections 4.4 (elements) and 5 (temporal units), and AV1 Bitstream Specification, sections 5.3.1 to 5.3.3 (OBUs)
+//! and 4.10.5 (leb128). There is no standard for IVF; the recorder writes the format that `dav1d` and `ffmpeg` read.
 #![tactic(auto)]
 
 mod fault;

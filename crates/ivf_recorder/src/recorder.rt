@@ -7,9 +7,9 @@ use sfu_base::{Blob, NoMemory};
 use std::alloc::Global;
 use std::marker::Model;
 
-/// Records the packets of one layered AV1 track as an IVF file (own rule). The file has the OBUs of the frames that a strict receiver accepts.
-/// Consecutive frames with the same RTP timestamp form a temporal unit. A unit of several frames has at most 16,777,216 bytes. Memory is
-/// allocated for the file, and for the elements of an unfinished frame.
+/// Records the packets of one layered AV1 track as an IVF file (own rule). The file has the OBUs of the frames that a strict receiver of these packets
+/// accepts. Consecutive frames with the same RTP timestamp form a temporal unit. A frame that would bring a unit above 16,777,216 bytes, without the
+/// unit's header, begins a new unit. The recorder allocates memory for the receiver, for the file, and for the elements of an unfinished frame.
 #[derive(Drop)]
 pub struct IvfRecorder {
     recording: Recording,
@@ -39,9 +39,9 @@ impl IvfRecorder {
         })
     }
 
-    /// Processes the next packet, of at most 2,048 bytes. Returns `Complaint` if the strict receiver complains about the packet. Returns `Obu`
-    /// if the packet ends a frame in which an element isn't an OBU. That frame isn't recorded. After one of these two faults, each call returns
-    /// the same fault and changes nothing. `NoMemory` changes nothing, and is only returned if there was no such fault before.
+    /// Processes the next packet, of at most 2,048 bytes. Returns `Complaint` if the strict receiver complains about the packet. Returns `Obu` if the
+    /// packet ends a frame, and an element of this frame isn't an OBU. This frame isn't recorded. After `Complaint` or `Obu`, each later call returns the
+    /// same fault and changes nothing. If memory runs out, returns `NoMemory` and changes nothing. `NoMemory` isn't returned after `Complaint` or `Obu`.
     pub fn feed(&mut self, packet: &[u8]) -> Result<(), RecordFault>
         requires { length packet.now ≤ 2048 }
         ensures id { self.new.receiver.id ≡ self.old.receiver.id }
@@ -53,7 +53,8 @@ impl IvfRecorder {
         self.recording.feed(packet)
     }
 
-    /// Returns the file of the frames so far, without an unfinished frame and without a frame in which an element isn't an OBU. Allocates no memory.
+    /// Returns the file of the frames so far. An unfinished frame isn't in the file. A frame with an element that isn't an OBU isn't in the file either.
+    /// Allocates no memory.
     pub fn finish(self) -> Blob
         ensures file { (history : List (List ℕ)) → StandsFor self history → result ≡ ivf_over self.receiver.id history }
         ensures reads { (history : List (List ℕ)) → StandsFor self history → IsFileWith result (obus_over self.receiver.id history) }

@@ -42,7 +42,8 @@ impl Recording {
         })
     }
 
-    /// Processes the next packet. All memory is allocated before the receiver processes the packet, because the receiver can't undo this.
+    /// Processes the next packet. All memory is allocated before the receiver processes the packet, because the receiver can't undo a packet that it has
+    /// processed.
     pub fn feed(&mut self, packet: &[u8]) -> Result<(), RecordFault>
         requires { length packet.now ≤ 2048 }
         ensures id { self.new.receiver.id ≡ self.old.receiver.id }
@@ -70,7 +71,7 @@ impl Recording {
     fn make_ready(&mut self, packet: &[u8]) -> Result<(), NoMemory>
         ensures taken { OnOk result (IsReadable packet.now → HasTaken self.old.frame self.new.frame packet.now) }
         ensures grown { Grown self.old.frame self.new.frame }
-        ensures room { OnOk result (vec_len self.new.file.bytes + (14 + most_bytes self.new.frame) ≤ vec_capacity self.new.file.bytes) }
+        ensures capacity { OnOk result (vec_len self.new.file.bytes + (14 + most_bytes self.new.frame) ≤ vec_capacity self.new.file.bytes) }
         ensures file { IsSameBut self.old.file self.new.file }
         ensures receiver { self.new.receiver ≡ self.old.receiver }
         ensures fault { self.new.fault ≡ self.old.fault }
@@ -91,7 +92,7 @@ impl Recording {
 
     // Finishes an accepted packet: if the packet ended a frame, appends the frame to the file.
     fn end_frame(&mut self) -> Result<(), RecordFault>
-        requires room { vec_len self.old.file.bytes + (14 + most_bytes self.old.frame) ≤ vec_capacity self.old.file.bytes }
+        requires capacity { vec_len self.old.file.bytes + (14 + most_bytes self.old.frame) ≤ vec_capacity self.old.file.bytes }
         ensures ends { (history : List (List ℕ)) (packet : List ℕ) → IsFed self.old history packet
             → Feeds None self.old.receiver.id self.new history packet result }
         ensures receiver { self.new.receiver ≡ self.old.receiver }
@@ -106,12 +107,12 @@ impl Recording {
         self.frame.clear();
         if first {
             let (width, height) = size(self.receiver.structure());
-            self.file.tell_size(width, height);
+            self.file.set_size(width, height);
         }
         Ok(())
     }
 
-    /// Returns the file, which is a complete IVF file after each frame. Allocates no memory.
+    /// Returns the file. After each frame, the file is a complete IVF file. Allocates no memory.
     pub fn finish(self) -> Blob
         ensures file { (history : List (List ℕ)) → StandsFor self history → result ≡ ivf_over self.receiver.id history }
         ensures reads { (history : List (List ℕ)) → StandsFor self history → IsFileWith result (obus_over self.receiver.id history) }

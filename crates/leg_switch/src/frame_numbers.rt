@@ -18,14 +18,14 @@ const CSRC: usize = 4;
 /// The length of the header extension's profile and length fields, in bytes (RFC 3550, section 5.3.1).
 const EXTENSION_HEADER: usize = 4;
 
-/// The profile of elements in the one-byte form (RFC 8285, section 4.2).
+/// The profile value of a header extension in the one-byte form (RFC 8285, section 4.2).
 const ONE_BYTE_PROFILE: u16 = 0xBEDE;
 
 /// The length of the mandatory descriptor fields, in bytes (AV1 RTP payload format, Appendix A).
 const MANDATORY: usize = 3;
 
-/// Frame numbers that continue over a change of leg: the frame numbers of the active leg plus an offset, modulo 65,536. The offset of the first
-/// leg is 0. At a change of leg, the offset is chosen so that the new leg's first frame number is the last forwarded one plus 1.
+/// Frame numbers that continue over a change of leg: the frame numbers of the active leg plus an offset, modulo 65,536. The offset of the first leg
+/// is 0. At a change of leg, the offset is chosen so that the first forwarded frame number of the new leg is the last one of the old leg plus 1.
 #[derive(Debug, Drop)]
 pub struct FrameNumbers {
     // The number that is added to the frame numbers of the active leg, modulo 65,536.
@@ -54,9 +54,9 @@ impl FrameNumbers {
         FrameNumbers { offset: 0, last: 0 }
     }
 
-    /// Overwrites the frame number of a forwarded packet, which was taken from `leg`. The packet must be a valid RTP packet. `active` is the
-    /// leg that was active before this packet; legs count from 1. `id` is the header extension id of the packet's dependency descriptor (RFC
-    /// 8285). Only the two bytes of the frame number change. A packet without a descriptor of at least three bytes is unchanged.
+    /// Overwrites the frame number of a forwarded packet that was taken from `leg`. The packet must be a valid RTP packet. `active` is the leg that
+    /// was active before this packet. Legs count from 1. `id` is the header extension id of the packet's dependency descriptor (RFC 8285). Only the
+    /// two bytes of the frame number change. If the packet has no descriptor, or one of fewer than three bytes, the packet is unchanged.
     pub fn renumber(&mut self, id: u8, active: Option<u8>, leg: u8, packet: &mut PacketBuf)
         requires { first_fault packet.old ≡ None }
         ensures numbers { self.new ≡ after_forwarded id active self.old leg packet.old }

@@ -1,23 +1,24 @@
 // Laws of the definitions of what is forwarded.
 ghost use Rattle.leg_switch.specs.Laws.{BundlesPlease, ChangesStep, FrameNumbersAreRead, KeyStartsGoOut, NumbersGoOn, OnlyNumbersDiffer, OutgoingGrows, RenumberedBundlesPlease, RenumberedGrows};
 
-/// Suppose that a strict receiver has no complaint about the packets taken from each leg, before and after the bundle was made. Then it has no
-/// complaint about the forwarded packets, nor about any prefix of them.
+/// Suppose that, for each leg, a strict receiver has no complaint about the packets taken from this leg, before and after the bundle was made. Then a
+/// strict receiver has no complaint about any prefix of the forwarded packets.
 pub fn bundles_please_receivers()
     ensures { BundlesPlease }
 {}
 
-/// A key start of the chosen leg is forwarded if the last packet taken from the active leg ended its frame.
+/// A key start is the first packet of a key frame. A key start of the chosen leg is forwarded if the last packet taken from the active leg ended a
+/// frame.
 pub fn key_starts_go_out_between_frames()
     ensures { KeyStartsGoOut }
 {}
 
-/// The first packet after a change of leg has the timestamp of the last forwarded packet plus 3,000, modulo 2^32.
+/// The first packet after a change of leg is forwarded with the timestamp of the packet forwarded before it plus 3,000 ticks, modulo 2^32.
 pub fn changes_step_the_timestamp()
     ensures { ChangesStep }
 {}
 
-/// The packets forwarded so far are a prefix of the packets forwarded later.
+/// The list of the packets forwarded so far is a prefix of this list at any later time.
 pub fn outgoing_only_grows()
     ensures { OutgoingGrows }
 {}
@@ -27,19 +28,20 @@ pub fn renumbered_bundles_please_receivers()
     ensures { RenumberedBundlesPlease }
 {}
 
-/// If frame numbers continue, they rise by 1, modulo 65,536, at a change of leg. The first packet of the new leg has the frame number of the
-/// packet forwarded before it, plus 1.
+/// A law for a bundle whose frame numbers continue over a change of leg. The first packet forwarded after the change has the frame number of the
+/// packet forwarded before it plus 1, modulo 65,536.
 pub fn frame_numbers_go_on()
     ensures { NumbersGoOn }
 {}
 
-/// The two bytes that are overwritten are the frame number that a track or a receiver reads. In a packet whose descriptor can be read, they are
-/// the descriptor's frame number.
+/// The two bytes that `FrameNumbers::renumber` overwrites are the frame number that a track or a receiver reads. If the packet's descriptor can be
+/// read, these two bytes are its frame_number.
 pub fn frame_numbers_are_read()
     ensures { FrameNumbersAreRead }
 {}
 
-/// If frame numbers continue, each forwarded packet differs from the one that would be forwarded otherwise only in the two bytes of its frame number.
+/// Compare a bundle whose frame numbers continue with one that takes the same packets and leaves the frame numbers unchanged. Their forwarded packets
+/// differ only in the two bytes of the frame number.
 pub fn only_frame_numbers_differ()
     ensures { OnlyNumbersDiffer }
 {}

@@ -1,6 +1,6 @@
-//! A bundle merges several streams, its legs, into one. This crate decides which packets of the legs are forwarded, and with which timestamps.
-//! One leg is forwarded at a time. The leg changes only between complete frames, at a key frame. On request, the packets get frame numbers that
-//! continue over a change of leg. No call allocates memory.
+//! A bundle merges several streams, its legs, into one. This crate decides which packets of the legs are forwarded, and with which timestamps. One
+//! leg is forwarded at a time. The bundle changes to another leg only at a key frame, and only if the last forwarded packet ended its frame. On
+//! request, the packets get frame numbers that continue over a change of leg. No call allocates memory.
 #![tactic(auto)]
 
 mod frame_numbers;

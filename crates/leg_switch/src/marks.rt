@@ -6,8 +6,8 @@ ghost use Rattle.leg_switch.specs.Marks.{ends_frame, starts_key};
 use dd_descriptor::{NewestDescriptor, edges};
 use packet_format::{begins_epoch, descriptor_bytes};
 
-/// Whether a packet is a key start (AV1 RTP payload format, Appendix A). Then its descriptor carries a template dependency structure and has
-/// start_of_frame set, and its frame refers to no other frame. The contents of `newest` are unspecified afterwards.
+/// Whether a packet is a key start, the first packet of a key frame (AV1 RTP payload format, Appendix A). The descriptor of a key start carries a
+/// template dependency structure, has start_of_frame set, and has no references. The contents of `newest` are unspecified afterwards.
 pub fn starts_key(packet: &[u8], id: u8, newest: &mut NewestDescriptor) -> bool
     requires { first_fault packet.now ≡ None }
     ensures { result ≡ starts_key id packet.now }
@@ -24,7 +24,7 @@ pub fn starts_key(packet: &[u8], id: u8, newest: &mut NewestDescriptor) -> bool
     }
 }
 
-/// Whether a packet ends its frame. This is end_of_frame, the second bit of its descriptor (AV1 RTP payload format, Appendix A).
+/// Whether a packet ends its frame: whether end_of_frame, the second bit of the packet's descriptor, is set (AV1 RTP payload format, Appendix A).
 pub fn ends_frame(packet: &[u8], id: u8) -> bool
     requires { first_fault packet.now ≡ None }
     ensures { result ≡ ends_frame id packet.now }

@@ -7,12 +7,12 @@ use crate::marks::{ends_frame, starts_key};
 use dd_descriptor::NewestDescriptor;
 use std::marker::Model;
 
-/// The forwarded timestamp rises by this number of ticks of the RTP clock at a change of leg (own rule).
+/// At a change of leg, the forwarded timestamp rises by this number of ticks of the RTP clock (own rule).
 const STEP: u32 = 3000;
 
-/// The chosen leg and the active leg of a bundle. Legs count from 1. The packets of the active leg are forwarded. A key start of the chosen leg
-/// makes that leg active, but only if no packet has been forwarded yet or the last forwarded packet ended its frame. At a change of leg, the
-/// forwarded timestamp rises by 3,000.
+/// The chosen leg and the active leg of a bundle. Legs count from 1. The packets of the active leg are forwarded. A key start, the first packet of a
+/// key frame, makes the chosen leg active if it comes from this leg. The last forwarded packet, if there is one, must have ended its frame. At a
+/// change of leg, the forwarded timestamp rises by 3,000 ticks.
 #[derive(Debug, Drop)]
 pub struct Switch {
     chosen: u8,

@@ -10,15 +10,16 @@ use thiserror::Error;
 #[derive(Clone, Copy, Debug, PartialEq, Eq, Error)]
 #[error("the packet's Z is {continues}, and the former Y {carried}")]
 pub struct JoinFault {
-    /// Y of the previous packet: whether that packet's last element continues in the next packet. False before the first packet.
+    /// Y of the previous packet: whether that packet's last element continues in the next packet. If this packet is the first one, `carried` is
+    /// false.
     pub carried: bool,
     /// Z of this packet: whether its first element continues the last element of the previous packet.
     pub continues: bool,
 }
 
-/// Checks that the elements of a frame's packets join (RTP Payload Format For AV1, section 4.4): the Z of each packet equals the Y of the
-/// previous packet. Contracts see a joiner as one flag, which says whether an element is unfinished. The flag is the Y of the last packet that
-/// joined, or false before the first packet.
+/// Checks that the elements of a frame's packets join (RTP Payload Format For AV1, section 4.4): the Z of each packet equals the Y of the previous
+/// packet. Contracts see a joiner as one flag, which says whether an element is unfinished. The flag is the Y of the last accepted packet, or false
+/// before the first packet.
 #[derive(Debug, Drop)]
 pub struct Joiner {
     carries: bool,
@@ -41,8 +42,8 @@ impl Joiner {
         Joiner { carries: false }
     }
 
-    /// Takes Z (`continues`) and Y (`carries`) of the next packet. Refuses the packet exactly when its Z differs from the Y of the last packet
-    /// that joined. Before the first packet, that Y counts as 0. A refusal changes nothing.
+    /// Takes Z (`continues`) and Y (`carries`) of the next packet. Refuses the packet exactly when its Z differs from the Y of the last accepted
+    /// packet. While no packet has been accepted, that Y counts as 0. A refusal changes nothing.
     pub fn feed(&mut self, continues: bool, carries: bool) -> Result<(), JoinFault>
         ensures ok { OnOk result ((continues ≡ self.old) × (self.new ≡ carries)) }
         ensures fault { IfErr result (λ e. (continues ≢ self.old) × (e ≡ record { carried = self.old; continues = continues })) }
@@ -62,7 +63,7 @@ impl Joiner {
         Ok(())
     }
 
-    /// Whether no element is unfinished, so that the packets so far may be a complete frame.
+    /// Returns true if no element is unfinished. Only then can the packets so far be a complete frame.
     pub fn is_closed(&self) -> bool
         ensures flag { result ≡ not self.now }
         ensures packets { (packets : List Flags) → IsAfter self.now packets → (result ≡ true) ↔ Join packets }

@@ -11,7 +11,7 @@ pub fn faultless_bytes_begin_with_a_header()
     ensures { (bytes : List ℕ) → AreBytes bytes → first_fault bytes ≡ None → BeginsWith bytes (header_of bytes) }
 {}
 
-/// Bytes that begin with a header have no fault, and the fields read from the bytes are the fields of that header. So bytes begin with at most
+/// Bytes that begin with a header have no fault. The fields that are read from the bytes are the fields of that header. So bytes begin with at most
 /// one header.
 pub fn a_header_has_one_reading()
     ensures no_fault { (bytes : List ℕ) (h : ObuHeader) → BeginsWith bytes h → first_fault bytes ≡ None }

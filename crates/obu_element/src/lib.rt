@@ -1,5 +1,5 @@
-//! Open bitstream units (OBUs) of AV1 in RTP payloads: checks that the elements of consecutive packets join, and reads the header of an OBU. No
-//! call allocates memory.
+//! Tools for the open bitstream units (OBUs) of AV1 in RTP payloads. The crate checks that the elements of consecutive packets join, and reads the
+//! header of an OBU. No call allocates memory.
 #![tactic(auto)]
 
 mod joiner;

@@ -48,7 +48,7 @@ pub fn header(bytes: &[u8]) -> Result<ObuHeader, ObuFault>
     located(bytes)
 }
 
-/// Reads each field at its place, or returns the first fault.
+/// Reads each field of the header at its position, or returns the first fault.
 #[tactic(auto, unfolding(crate::specs::Reading::first_fault))]
 fn located(bytes: &[u8]) -> Result<ObuHeader, ObuFault>
     ensures fields { IfOk result (λ h. h ≡ header_of bytes.now) }

@@ -4,6 +4,9 @@ pub mod Steps
 pub mod Calls
 pub mod Histories
 pub mod Modelled
+pub mod Paged
+pub mod Placed
+pub mod Holding
 pub mod Slotted
 pub mod Turned
 pub mod Padded

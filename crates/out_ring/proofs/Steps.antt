@@ -22,12 +22,6 @@ ring_of ssrc next kept held = record {
 
 -- ---- a push
 
--- in a full ring the first slot is dropped, and one is appended
-pub rotated : {X : Type 0} (xs : List X) (x : X) (m : ℕ) → length xs ≡ 1536 → m < 1536 → drop m (drop 1 xs ++ x ∷ []) ≡ drop (m + 1) xs ++ x ∷ []
-rotated xs x m full lt =
-    drop-append-le m (drop 1 xs) (x ∷ []) (omega (arith, length-drop 1 xs, full))
-    ∙ ap (λ l. l ++ x ∷ []) (drop-drop m 1 xs ∙ ap (λ k. drop k xs) (let e : 1 + m ≡ m + 1 = omega arith in e))
-
 pub ring_pushed : (ssrc next kept : ℕ) (held : List Pushed) (p : Pushed) → kept ≤ length held
     → ring_of ssrc next kept (held ++ p ∷ []) ≡ pushed p.bytes p.marker (ring_of ssrc next kept held)
 ring_pushed ssrc next kept held p few =
@@ -100,13 +94,6 @@ pub size_of_queue : (ssrc next kept queued : ℕ) (held : List Pushed) → lengt
 size_of_queue ssrc next kept queued held size =
     length-map (numbered next ssrc (drop kept held)) bytes_of ∙ length-numbered next ssrc (drop kept held) ∙ length-drop kept held ∙ omega (arith, size)
 
--- the kept and queued packets after a push
-pub held_pushed : (slots : List Pushed) (slot : Pushed) (queued kept : ℕ) → length slots ≡ 1536 → queued + kept < 1536
-    → drop (1536 - (queued + 1) - kept) (drop 1 slots ++ slot ∷ []) ≡ drop (1536 - queued - kept) slots ++ slot ∷ []
-held_pushed slots slot queued kept full few =
-    rotated slots slot (1536 - (queued + 1) - kept) full (omega arith)
-    ∙ ap (λ (k : ℕ). drop k slots ++ slot ∷ []) (let e : 1536 - (queued + 1) - kept + 1 ≡ 1536 - queued - kept = omega (arith, few) in e)
-
 -- the kept and queued packets after a take
 pub held_taken : (slots : List Pushed) (queued kept keeps : ℕ) → 0 < queued → queued + kept ≤ 1536 → keeps ≤ kept + 1
     → drop (1536 - (queued - 1) - keeps) slots ≡ drop (kept + 1 - keeps) (drop (1536 - queued - kept) slots)
@@ -120,10 +107,13 @@ pub held_at : (slots : List Pushed) (from i : ℕ) → slice_get (drop from slot
 held_at slots from i = item_after_drop slots from i
 
 -- the fields after a push
-pub push_fields : (slots : List Pushed) (slot : Pushed) (ssrc next queued kept : ℕ) → length slots ≡ 1536 → queued < 512 → kept ≤ 1024
-    → ring_of ssrc next kept (drop (1536 - (queued + 1) - kept) (drop 1 slots ++ slot ∷ []))
+pub push_fields : (slots new : List Pushed) (slot : Pushed) (ssrc next queued kept : ℕ) → length slots ≡ 1536 → queued < 512 → kept ≤ 1024
+    → drop (1535 - (queued + kept)) new ≡ drop (1536 - (queued + kept)) slots ++ slot ∷ []
+    → ring_of ssrc next kept (drop (1536 - (queued + 1) - kept) new)
     ≡ pushed slot.bytes slot.marker (ring_of ssrc next kept (drop (1536 - queued - kept) slots))
-push_fields slots slot ssrc next queued kept full few most =
-    ap (ring_of ssrc next kept) (held_pushed slots slot queued kept full (omega (arith, few, most)))
+push_fields slots new slot ssrc next queued kept full few most is =
+    ap (λ (k : ℕ). ring_of ssrc next kept (drop k new)) (let e : 1536 - (queued + 1) - kept ≡ 1535 - (queued + kept) = omega (arith, few, most) in e)
+    ∙ ap (ring_of ssrc next kept) is
+    ∙ ap (λ (k : ℕ). ring_of ssrc next kept (drop k slots ++ slot ∷ [])) (let e : 1536 - (queued + kept) ≡ 1536 - queued - kept = omega arith in e)
     ∙ ring_pushed ssrc next kept (drop (1536 - queued - kept) slots) slot
     (let size = size_of_held slots queued kept full (omega (arith, few, most)) in omega (arith, size))

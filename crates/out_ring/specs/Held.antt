@@ -4,10 +4,9 @@ use Rattle.std.specs.Vec.{vec_capacity}
 use Rattle.out_ring.specs.declared.heads.Head.{Head}
 use Rattle.out_ring.specs.declared.heads.Heads.TheInside as heads
 use Rattle.out_ring.specs.declared.ring.OutRing.TheInside.{Inside}
-use Rattle.out_ring.specs.declared.slots.Slots.TheInside as slots
 use Rattle.out_ring.specs.Ring.{Pushed, Ring}
 use Rattle.out_ring.specs.History.{numbered}
-use Rattle.out_ring.specs.Slots.{packets_from, padded}
+use Rattle.out_ring.specs.Slots.{AreHeld, packets_of, padded}
 
 -- the items from this place on, followed by those before it
 abbrev pub turned : {X : Type 0} → ℕ → List X → List X
@@ -22,18 +21,9 @@ pub record AreHeads (a : heads.Inside) : Type 0 where
   pub oldest : a.oldest < 1536
   pub put : length a.ring.items < 1536 → a.oldest ≡ length a.ring.items
 
-abbrev pub packets_of : slots.Inside → List Pushed
-packets_of a = packets_from a.first a.heads a.own.items
-
-pub record AreSlots (a : slots.Inside) : Type 0 where
-  pub heads : length a.heads ≡ 1536
-  pub own : length a.own.items ≤ 1536
-  pub capacity : 1536 ≤ vec_capacity a.own
-  pub first : a.first < 1536
-
 -- the packets that are kept or queued, the oldest first
 abbrev pub held : Inside → List Pushed
-held a = drop (1536 - a.queued - a.kept) a.slots
+held a = drop (1536 - a.queued - a.kept) (packets_of a.slots)
 
 abbrev pub seen : Inside → Ring
 seen a = record {
@@ -44,7 +34,7 @@ seen a = record {
 }
 
 pub record IsFull (a : Inside) : Type 0 where
-  pub slots : length a.slots ≡ 1536
+  pub placed : AreHeld a.slots (a.queued + a.kept)
   pub next : a.next < 65536
   pub queued : a.queued ≤ 512
   pub kept : a.kept ≤ 1024

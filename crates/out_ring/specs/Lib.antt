@@ -3,6 +3,7 @@ pub mod History
 pub mod Packet
 pub mod Store
 pub mod Capacity
+pub mod Pages
 pub mod Slots
 pub mod Held
 pub mod Places

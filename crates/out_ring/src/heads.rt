@@ -1,8 +1,9 @@
-// The heads of the slots. A head has the packet that its slot shares, if there is one, and the slot's marker.
+// The heads of the slots: the packet that each slot shares, if any, the location of its copy, and its marker.
 ghost use Rattle.std.specs.Prelude.{◌≡◌, ◌<◌, ◌≤◌, ◌∷◌, ◌++◌, All, IfOk, None, Some, [], drop, length, slice_get};
 ghost use Rattle.std.specs.Option.{option_copied};
 ghost use Rattle.out_ring.specs.Slots.{evict, shared_at};
 
+use crate::pages::Location;
 use crate::places::{SLOTS, next_place, place_from};
 use crate::store::{PacketStore, SharedPacket};
 use sfu_base::NoMemory;
@@ -10,10 +11,11 @@ use std::alloc::Global;
 use std::marker::Model;
 use std::mem;
 
-/// The shared packet of one slot, if the slot has one, and the marker bit with which the slot's packet is sent.
+/// What a slot has: its shared packet or, if it shares none, the location of its own copy. It also has the marker with which its packet is sent.
 #[derive(Debug, Drop)]
 pub struct Head {
     pub shared: Option<SharedPacket>,
+    pub location: Location,
     pub marker: bool,
 }
 
@@ -41,7 +43,7 @@ impl Model for Heads {
 }
 
 impl Heads {
-    /// Heads without shared packets. Returns `NoMemory` if memory runs out. No later call allocates memory.
+    /// Makes 1,536 heads without shared packets. Returns `NoMemory` if memory runs out. No later call allocates memory.
     pub fn new(alloc: Global) -> Result<Heads, NoMemory>
         ensures size { IfOk result (λ heads. length heads ≡ 1536) }
         ensures unshared { IfOk result (λ heads. All (λ head. head.shared ≡ None) heads) }
@@ -52,19 +54,28 @@ impl Heads {
         Ok(Heads { ring, oldest: 0 })
     }
 
-    /// Returns the packet that the head at this place shares, if there is one, and the head's marker. Places count from 0 at the oldest.
+    /// The shared packet, if there is one, the location and the marker of the head at this place. The oldest head has place 0.
     #[inline(always)]
-    pub fn get(&self, place: usize) -> (Option<&SharedPacket>, bool)
+    pub fn get(&self, place: usize) -> (Option<&SharedPacket>, Location, bool)
         requires { place < 1536 }
-        ensures { slice_get self.now place ≡ Some (record { shared = option_copied result.0; marker = result.1 }) }
+        ensures { slice_get self.now place
+            ≡ Some (record { shared = option_copied result.0; location = result.1; marker = result.2 }) }
     {
         match self.ring.get(place_from(self.oldest, place)) {
-            Some(head) => (head.shared.as_ref(), head.marker),
-            None => (None, false),
+            Some(head) => (head.shared.as_ref(), head.location, head.marker),
+            None => (
+                None,
+                Location {
+                    at: 0,
+                    size: 0,
+                    page: 0,
+                },
+                false,
+            ),
         }
     }
 
-    /// Removes and returns the shared packet of the head at this place, or returns `None` if the head has none. Places count from 0 at the oldest.
+    /// Removes and returns the shared packet of the head at this place, or returns `None` if the head has none. The oldest head has place 0.
     #[inline(always)]
     pub fn evict(&mut self, place: usize) -> Option<SharedPacket>
         requires { place < 1536 }
@@ -78,13 +89,22 @@ impl Heads {
         self.ring[index].shared.take()
     }
 
-    /// Drops the oldest head, and adds one as the newest. Returns the packet that the oldest head shared, if it shared one.
+    /// Drops the oldest head, and adds a head with these fields as the newest. Returns the packet that the oldest head shared, if it shared one.
     #[inline(always)]
-    pub fn put_last(&mut self, shared: Option<SharedPacket>, marker: bool) -> Option<SharedPacket>
+    pub fn put_last(
+        &mut self,
+        shared: Option<SharedPacket>,
+        location: Location,
+        marker: bool,
+    ) -> Option<SharedPacket>
         ensures shared { result ≡ shared_at self.old 0 }
-        ensures heads { self.new ≡ drop 1 self.old ++ record { shared = shared; marker = marker } ∷ [] }
+        ensures heads { self.new ≡ drop 1 self.old ++ record { shared = shared; location = location; marker = marker } ∷ [] }
     {
-        let head = Head { shared, marker };
+        let head = Head {
+            shared,
+            location,
+            marker,
+        };
         let index = self.oldest;
         self.oldest = next_place(index);
         if index >= self.ring.len() {
@@ -93,6 +113,7 @@ impl Heads {
         }
         let Head {
             shared: before,
+            location: _,
             marker: _,
         } = mem::replace(&mut self.ring[index], head);
         before
@@ -105,7 +126,11 @@ impl Heads {
     {
         let Heads { mut ring, .. } = self;
         while let Some(head) = ring.pop() {
-            let Head { shared, marker: _ } = head;
+            let Head {
+                shared,
+                location: _,
+                marker: _,
+            } = head;
             if let Some(packet) = shared {
                 store.release(packet);
             }

@@ -5,6 +5,7 @@
 mod heads;
 mod laws;
 mod packet;
+mod pages;
 mod places;
 mod ring;
 mod slots;

@@ -4,28 +4,27 @@ ghost use Rattle.rtp_packet.specs.Faults.{first_fault};
 ghost use Rattle.out_ring.specs.Packet.{least_packet};
 
 use rtp_packet::plain_packets_read;
+use sfu_base::FixedBuf;
 use std::marker::Model;
 
 /// The largest length of a packet that is sent, in bytes (own rule).
 const MOST_BYTES: usize = 1536;
 
-/// An RTP packet of at most 1,536 bytes, exactly as it was stored. Contracts see it as its bytes. No call allocates memory.
+/// An RTP packet of at most 1,536 bytes, exactly as it was stored. Contracts see the packet as its bytes. No call allocates memory.
 #[derive(Debug, Drop)]
 pub struct StoredPacket {
-    buf: [u8; MOST_BYTES],
-    count: usize,
+    contents: FixedBuf<MOST_BYTES>,
 }
 
 impl Model for StoredPacket {
-    ghost use Rattle.std.specs.Prelude.{List, ℕ};
+    ghost use Rattle.std.specs.Prelude.{◌≡◌, List, ℕ, None};
+    ghost use Rattle.rtp_packet.specs.Faults.{first_fault};
 
     ghost Value = { List ℕ };
 
-    ghost use Rattle.out_ring.specs.Packet.{HasPacket, bytes_in};
+    ghost view = { λ packet. packet.contents };
 
-    ghost view = { bytes_in };
-
-    ghost invariant = { HasPacket };
+    ghost invariant = { λ packet. first_fault packet.contents ≡ None };
 }
 
 impl StoredPacket {
@@ -36,18 +35,18 @@ impl StoredPacket {
         plain_packets_read();
         let mut buf = [0; MOST_BYTES];
         buf[0] = 0x80;
-        StoredPacket { buf, count: 12 }
+        StoredPacket {
+            contents: FixedBuf::of(buf, 12),
+        }
     }
 
-    /// Replaces the packet with this RTP packet of at most 1,536 bytes.
+    /// Replaces the stored packet with `packet`, an RTP packet of at most 1,536 bytes.
     pub fn fill(&mut self, packet: &[u8])
         requires reads { first_fault packet.now ≡ None }
         requires fits { length packet.now ≤ 1536 }
         ensures { self.new ≡ packet.now }
     {
-        let count = packet.len();
-        self.buf[..count].copy_from_slice(packet);
-        self.count = count;
+        self.contents.fill(packet);
     }
 
     /// The packet's bytes.
@@ -56,6 +55,6 @@ impl StoredPacket {
         ensures reads { first_fault self.now ≡ None }
         ensures fits { length self.now ≤ 1536 }
     {
-        &self.buf[..self.count]
+        self.contents.bytes()
     }
 }

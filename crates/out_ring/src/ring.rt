@@ -42,8 +42,8 @@ impl Model for OutRing {
 }
 
 impl OutRing {
-    /// A ring with no queued and no kept packets. The ring's packets are sent with this SSRC, and with sequence numbers from `first` on.
-    /// Allocates 1,536 slots of 1,536 bytes, or returns `NoMemory`. No later call allocates memory.
+    /// Makes a ring with no packets queued or kept. Its packets will have this SSRC, and sequence numbers from `first` on. All memory is allocated
+    /// here, for 1,536 packets of at most 1,536 bytes. Returns `NoMemory` if memory runs out.
     pub fn new(alloc: Global, ssrc: u32, first: u16) -> Result<OutRing, NoMemory>
         ensures begun { IfOk result (λ ring. ring ≡ begun ssrc first) }
         ensures stands { IfOk result (λ ring. IsAfter ring (nothing_done ssrc first)) }
@@ -66,9 +66,9 @@ impl OutRing {
         self.queued
     }
 
-    /// Appends an RTP packet of at most 1,536 bytes to the queue, which must have fewer than 512 packets. The packet is sent with the next
-    /// sequence number, the subscriber's SSRC and this marker; no other bit changes. Its bytes are copied once. Call `evict` first. Without
-    /// that call, a packet that the oldest slot still shares is dropped, and its buffer is lost to the store.
+    /// Appends an RTP packet of at most 1,536 bytes to the queue, which must have fewer than 512 packets. The packet is sent with the next sequence
+    /// number, the subscriber's SSRC and this marker; no other bit changes. The packet's bytes are copied once. Call `evict` first. Without that
+    /// call, a packet that the oldest slot still shares is dropped, and the store may lose its buffer.
     #[inline(always)]
     pub fn push(&mut self, packet: &[u8], marker: bool)
         requires capacity { length self.old.queued < 512 }
@@ -77,13 +77,14 @@ impl OutRing {
         ensures pushed { self.new ≡ pushed packet.now marker self.old }
         ensures stands { (h : History) → IsAfter self.old h → IsAfter self.new (and_push h packet.now marker) }
     {
+        let held = usize::from(self.queued + self.kept);
         self.queued += 1;
         self.spent = spent_in(self.spent, self.queued, self.kept);
-        let _ = self.slots.fill(packet, marker);
+        let _ = self.slots.fill(packet, marker, held);
     }
 
-    /// Appends a shared packet to the queue, as `push` does with a copy. No byte is copied. The new packet takes the oldest slot. If that slot
-    /// still shared a packet, returns this packet, so that the caller can release it to its store.
+    /// Appends a shared packet to the queue, as `push` does with a copy. No byte is copied. The new packet takes the oldest slot. If that slot still
+    /// shared another packet, returns that other packet. The caller can then release it to its store.
     #[inline(always)]
     pub fn push_shared(&mut self, packet: SharedPacket, marker: bool) -> Option<SharedPacket>
         requires capacity { length self.old.queued < 512 }
@@ -95,8 +96,9 @@ impl OutRing {
         self.slots.share(packet, marker)
     }
 
-    /// Checks the oldest slot that may still share a packet that isn't kept any more. If the slot has one, removes and returns it. Call this
-    /// before each push, and release the returned packet. Each take leaves at most one such slot, so the buffers are soon free again.
+    /// A slot may still share its packet after the ring stopped keeping this packet. Checks the oldest such slot: if it shares a packet, removes and
+    /// returns the packet. Call `evict` before each push, and release the returned packet. Each take adds at most one such slot, so the buffers are
+    /// soon free again.
     #[inline(always)]
     pub fn evict(&mut self) -> Option<SharedPacket>
         ensures { self.new ≡ self.old }
@@ -109,7 +111,7 @@ impl OutRing {
         self.slots.evict(place)
     }
 
-    /// Ends the ring, and releases the packets that it shares to the store.
+    /// Ends the ring. Releases all its shared packets to the store.
     pub fn release(self, store: &mut PacketStore)
         ensures all { store.new.all ≡ store.old.all }
         ensures free { store.old.free ≤ store.new.free }

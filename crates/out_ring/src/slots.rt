@@ -1,90 +1,76 @@
 // The slots of a ring.
-ghost use Rattle.std.specs.Prelude.{◌≡◌, ◌≢◌, ◌<◌, ◌≤◌, ◌∷◌, ◌++◌, IfOk, None, [], drop, length, slice_get, vec_len, ℕ};
+ghost use Rattle.std.specs.Prelude.{◌≡◌, ◌<◌, ◌≤◌, ◌+◌, ◌-◌, ◌∷◌, ◌++◌, IfOk, None, Some, [], drop, length, map, slice_get, ℕ};
 ghost use Rattle.std.specs.Option.{option_copied};
-ghost use Rattle.std.specs.Vec.{vec_capacity};
 ghost use Rattle.rtp_packet.specs.Faults.{first_fault};
+ghost use Rattle.out_ring.specs.declared.heads.Head.{Head};
+ghost use Rattle.out_ring.specs.Pages.{copy_at, filled, place_of};
 ghost use Rattle.out_ring.specs.Places.{SendsFrom};
-ghost use Rattle.out_ring.specs.Slots.{AreAlike, bytes_by};
+ghost use Rattle.out_ring.specs.Slots.{AreHeld, AreIn, HasCopy, bytes_by, packet_in, packets_of};
 
 use crate::heads::Heads;
-use crate::packet::StoredPacket;
-use crate::places::{SLOTS, next_place, place_from};
+use crate::pages::{Copies, Location, PAGE_BYTES, PAGES};
+use crate::places::SLOTS;
 use crate::store::{PacketStore, SharedPacket};
 use rtp_packet::rewrite;
 use sfu_base::{NoMemory, PacketBuf};
 use std::alloc::Global;
-use std::marker::Model;
 
-/// The last 1,536 packets that were added, each with the marker with which it is sent. A slot shares its packet, or has a copy of its own.
-/// `new` allocates the memory for all heads and copies, but doesn't touch it. Each push touches at most one more head and, from the first copy
-/// on, at most one more buffer. Contracts see 1,536 packets, the oldest first. A slot that hasn't been filled yet has the shortest RTP packet.
+/// The last 1,536 packets that were put in, each with the marker with which it is sent. A slot shares its packet, or has a copy of its own. `new`
+/// allocates the memory for all heads and copies, but doesn't touch it. Each push touches the memory of at most one new head. If the push copies the
+/// packet, it also touches at most one new page. `packets_of` is the list of all 1,536 packets, the oldest first. `AreHeld slots n` says that each of
+/// the n newest is shared or has its copy in a page.
 #[derive(Debug, Drop)]
 pub struct Slots {
-    heads: Heads,
-    // The slots' own copies. The oldest slot's copy is at index `first`; the others follow in order and wrap around. Empty until the first copy.
-    own: Vec<StoredPacket>,
-    first: usize,
-}
-
-impl Model for Slots {
-    ghost use Rattle.std.specs.Prelude.{List};
-    ghost use Rattle.out_ring.specs.Ring.{Pushed};
-
-    ghost Value = { List Pushed };
-
-    ghost use Rattle.out_ring.specs.Held.{AreSlots, packets_of};
-
-    ghost view = { packets_of };
-
-    ghost invariant = { AreSlots };
+    pub heads: Heads,
+    // the copies of the packets that aren't shared
+    pub own: Copies,
 }
 
 impl Slots {
     /// Makes 1,536 slots. Returns `NoMemory` if memory runs out. No later call allocates memory.
     pub fn new(alloc: Global) -> Result<Slots, NoMemory>
-        ensures { IfOk result (λ slots. length slots ≡ 1536) }
+        ensures { IfOk result (λ slots. AreHeld slots 0) }
     {
-        let Ok(own) = Vec::with_capacity(alloc, SLOTS) else {
-            return Err(NoMemory);
-        };
         Ok(Slots {
             heads: Heads::new(alloc)?,
-            own,
-            first: 0,
+            own: Copies::new(alloc)?,
         })
     }
 
-    /// Drops the oldest packet, and adds a copy of this packet, with this marker, as the newest. Returns the packet that the oldest slot
-    /// shared, if it shared one.
-    pub fn fill(&mut self, packet: &[u8], marker: bool) -> Option<SharedPacket>
+    /// Drops the oldest packet, and adds a copy of this packet, with this marker, as the newest. The `held` newest of the other packets are
+    /// unchanged. Returns the packet that the oldest slot shared, if it shared one.
+    pub fn fill(&mut self, packet: &[u8], marker: bool, held: usize) -> Option<SharedPacket>
         requires reads { first_fault packet.now ≡ None }
         requires fits { length packet.now ≤ 1536 }
-        ensures { self.new ≡ drop 1 self.old ++ record { bytes = packet.now; marker = marker } ∷ [] }
+        requires held { held < 1536 }
+        requires placed { AreHeld self.old held }
+        ensures placed { AreHeld self.new (held + 1) }
+        ensures packets { drop (1535 - held) (packets_of self.new)
+            ≡ drop (1536 - held) (packets_of self.old) ++ record { bytes = packet.now; marker = marker } ∷ [] }
     {
-        let place = place_for(&self.own, self.first);
-        make_own(&mut self.own, place);
-        self.own[place].fill(packet);
-        self.first = next_place(place);
-        self.heads.put_last(None, marker)
+        make_capacity(&mut self.own, &self.heads, held, packet.len());
+        let location = self.own.write(packet);
+        self.heads.put_last(None, location, marker)
     }
 
     /// Drops the oldest packet, and adds this shared packet, with this marker, as the newest. Returns the packet that the oldest slot shared, if it shared one.
     #[inline(always)]
     pub fn share(&mut self, packet: SharedPacket, marker: bool) -> Option<SharedPacket>
-        ensures { self.new ≡ drop 1 self.old ++ record { bytes = packet; marker = marker } ∷ [] }
+        ensures placed { (held : ℕ) → held < 1536 → AreHeld self.old held → AreHeld self.new (held + 1) }
+        ensures packets { packets_of self.new ≡ drop 1 (packets_of self.old) ++ record { bytes = packet; marker = marker } ∷ [] }
     {
-        go_on(&mut self.own, self.first);
-        self.first = next_place(self.first);
-        self.heads.put_last(Some(packet), marker)
+        let location = self.own.nowhere();
+        self.heads.put_last(Some(packet), location, marker)
     }
 
-    /// Removes and returns the packet that the slot at this place shares, if it shares one. Places count from 0 at the oldest. Afterwards this
-    /// slot and older slots may have any packets. The packets of newer slots are unchanged.
+    /// Removes and returns the packet that the slot at this place shares, if it shares one. The oldest slot has place 0. Afterwards the packets of
+    /// this slot and of older slots are unspecified. The packets of newer slots are unchanged.
     #[inline(always)]
     pub fn evict(&mut self, place: usize) -> Option<SharedPacket>
         requires { place < 1536 }
-        ensures size { length self.new ≡ length self.old }
-        ensures others { (from : ℕ) → place < from → drop from self.new ≡ drop from self.old }
+        ensures others { (from : ℕ) → place < from → drop from self.new.heads ≡ drop from self.old.heads }
+        ensures size { length self.new.heads ≡ length self.old.heads }
+        ensures own { self.new.own ≡ self.old.own }
     {
         self.heads.evict(place)
     }
@@ -98,83 +84,112 @@ impl Slots {
         heads.release(store);
     }
 
-    /// Replaces the contents of `out` with the packet at this place, but with this sequence number and SSRC and with the slot's marker. Places
-    /// count from 0 at the oldest. The result is an RTP packet of the same length.
+    /// Replaces the contents of `out` with the packet of the slot at this place. The sequence number becomes `seq`, the SSRC becomes `ssrc`, and the
+    /// marker becomes that of the slot. The oldest slot has place 0. The result is an RTP packet of the same length.
     pub fn send(&self, place: usize, seq: u16, ssrc: u32, out: &mut PacketBuf)
         requires place { place < 1536 }
-        ensures sends { SendsFrom self.now place seq ssrc out.new }
+        requires copy { (head : Head) → slice_get self.now.heads place ≡ Some head → HasCopy self.now.own.bytes.items head }
+        ensures sends { SendsFrom (packets_of self.now) place seq ssrc out.new }
         ensures reads { first_fault out.new ≡ None }
         ensures fits { length out.new ≤ 1536 }
     {
-        let (shared, marker) = self.heads.get(place);
-        fill_out(
-            shared,
-            own_in(&self.own, place_from(self.first, place)),
-            out,
-        );
+        let (shared, location, marker) = self.heads.get(place);
+        fill_out(shared, &self.own, location, out);
         rewrite(out, seq, ssrc, marker);
     }
 }
 
-// The index of the next copy: 0 for the first copy, otherwise `first`.
-fn place_for(own: &[StoredPacket], first: usize) -> usize
-    requires { first < 1536 }
-    ensures below { result < 1536 }
-    ensures same { own.now ≢ [] → result ≡ first }
-{
-    if own.is_empty() { 0 } else { first }
-}
-
-// Appends copies of the shortest RTP packet until there is an item at index `place`. The slots' packets stay the same.
-fn make_own(own: &mut Vec<StoredPacket>, place: usize)
-    requires place { place < 1536 }
-    requires few { vec_len own.old ≤ 1536 }
-    requires capacity { 1536 ≤ vec_capacity own.old }
-    ensures made { place < length own.new.items }
-    ensures few { vec_len own.new ≤ 1536 }
-    ensures capacity { 1536 ≤ vec_capacity own.new }
-    ensures same { AreAlike own.old.items own.new.items }
-{
-    while own.len() <= place {
-        own.push_reserved(StoredPacket::new());
-    }
-}
-
-// Like `make_own`, but does nothing if there are no copies yet.
+// Makes capacity for a copy of this size. The `held` newest packets are unchanged.
 #[inline(always)]
-fn go_on(own: &mut Vec<StoredPacket>, place: usize)
-    requires place { place < 1536 }
-    requires few { vec_len own.old ≤ 1536 }
-    requires capacity { 1536 ≤ vec_capacity own.old }
-    ensures few { vec_len own.new ≤ 1536 }
-    ensures capacity { 1536 ≤ vec_capacity own.new }
-    ensures same { AreAlike own.old.items own.new.items }
+fn make_capacity(own: &mut Copies, heads: &Heads, held: usize, size: usize)
+    requires full { length heads.now ≡ 1536 }
+    requires held { held < 1536 }
+    requires fits { size ≤ 1536 }
+    requires placed { AreIn own.old (drop (1536 - held) heads.now) }
+    ensures placed { AreIn own.new (drop (1536 - held) heads.now) }
+    ensures packets { map (packet_in own.new.bytes.items) (drop (1536 - held) heads.now)
+        ≡ map (packet_in own.old.bytes.items) (drop (1536 - held) heads.now) }
+    ensures capacity { own.new.at + size ≤ own.new.limit }
 {
-    if !own.is_empty() {
-        make_own(own, place);
+    if own.at + size > own.limit {
+        extend(own, heads, held, size);
     }
 }
 
-// The copy at this place, if there is one.
-fn own_in(own: &[StoredPacket], place: usize) -> Option<&StoredPacket>
-    ensures { option_copied result ≡ slice_get own.now place }
+// As `make_capacity`: in the current page, or else in another one.
+#[inline(never)]
+fn extend(own: &mut Copies, heads: &Heads, held: usize, size: usize)
+    requires full { length heads.now ≡ 1536 }
+    requires held { held < 1536 }
+    requires fits { size ≤ 1536 }
+    requires placed { AreIn own.old (drop (1536 - held) heads.now) }
+    ensures placed { AreIn own.new (drop (1536 - held) heads.now) }
+    ensures packets { map (packet_in own.new.bytes.items) (drop (1536 - held) heads.now)
+        ≡ map (packet_in own.old.bytes.items) (drop (1536 - held) heads.now) }
+    ensures capacity { own.new.at + size ≤ own.new.limit }
 {
-    own.get(place)
+    turn_if_full(own, heads, held, size);
+    own.extend(size);
 }
 
-// Replaces the contents of `out` with the shared packet. Without a shared packet, the slot's own copy is used. If there is no copy either, the
-// shortest packet is used.
-fn fill_out(shared: Option<&SharedPacket>, own: Option<&StoredPacket>, out: &mut PacketBuf)
-    ensures bytes { out.new ≡ bytes_by (option_copied shared.entry) (option_copied own.entry) }
+// Begins another page if the current one has no capacity for a copy of this size.
+fn turn_if_full(own: &mut Copies, heads: &Heads, held: usize, size: usize)
+    requires full { length heads.now ≡ 1536 }
+    requires held { held < 1536 }
+    requires fits { size ≤ 1536 }
+    requires placed { AreIn own.old (drop (1536 - held) heads.now) }
+    ensures placed { AreIn own.new (drop (1536 - held) heads.now) }
+    ensures bytes { own.new.bytes ≡ own.old.bytes }
+    ensures capacity { filled own.new.order.items own.new.at + size ≤ 49152 }
+{
+    if own.filled() + size > PAGE_BYTES {
+        turn(own, heads, held);
+    }
+}
+
+// Begins another page, one that none of the `held` newest packets is in.
+fn turn(own: &mut Copies, heads: &Heads, held: usize)
+    requires full { length heads.now ≡ 1536 }
+    requires held { held < 1536 }
+    requires used { 47616 < filled own.old.order.items own.old.at }
+    requires placed { AreIn own.old (drop (1536 - held) heads.now) }
+    ensures placed { AreIn own.new (drop (1536 - held) heads.now) }
+    ensures bytes { own.new.bytes ≡ own.old.bytes }
+    ensures empty { filled own.new.order.items own.new.at ≡ 0 }
+{
+    let place = unused_place(own, heads, held);
+    own.turn(place);
+}
+
+// The place of a page that none of the `held` newest packets is in: right before that of the oldest one's page.
+fn unused_place(own: &Copies, heads: &Heads, held: usize) -> usize
+    requires full { length heads.now ≡ 1536 }
+    requires held { held < 1536 }
+    requires used { 47616 < filled own.now.order.items own.now.at }
+    requires placed { AreIn own.now (drop (1536 - held) heads.now) }
+    ensures below { result < 49 }
+    ensures unused { (i : ℕ) (head : Head) → slice_get (drop (1536 - held) heads.now) i ≡ Some head
+        → result < place_of own.now.order.items head.location.page }
+{
+    if held == 0 {
+        return PAGES - 1;
+    }
+    let (_, location, _) = heads.get(SLOTS - held);
+    own.place(location.page) - 1
+}
+
+// Replaces the contents of `out` with the shared packet, or else with the copy at this location.
+#[inline(always)]
+fn fill_out(shared: Option<&SharedPacket>, own: &Copies, location: Location, out: &mut PacketBuf)
+    requires there { option_copied shared ≡ None → location.at + location.size ≤ length own.now.bytes.items }
+    requires reads { option_copied shared ≡ None → first_fault (copy_at own.now.bytes.items location) ≡ None }
+    requires fits { location.size ≤ 1536 }
+    ensures bytes { out.new ≡ bytes_by (option_copied shared.entry) (copy_at own.now.bytes.items location) }
     ensures reads { first_fault out.new ≡ None }
     ensures fits { length out.new ≤ 1536 }
 {
-    match (shared, own) {
-        (Some(packet), _) => out.fill(packet.bytes()),
-        (None, Some(packet)) => out.fill(packet.bytes()),
-        (None, None) => {
-            let least = StoredPacket::new();
-            out.fill(least.bytes());
-        }
+    match shared {
+        Some(packet) => out.fill(packet.bytes()),
+        None => out.fill(own.get(location)),
     }
 }

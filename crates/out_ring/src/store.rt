@@ -26,7 +26,7 @@ impl Model for SharedPacket {
 }
 
 impl SharedPacket {
-    /// Returns one more reference to the same packet, or `None` if the reference count would overflow. It allocates no memory.
+    /// Returns one more reference to the same packet, or `None` if the reference count would overflow. The call allocates no memory.
     #[inline(always)]
     pub fn another(&self) -> Option<SharedPacket>
         ensures { IfSome result (λ shared. shared ≡ self.now) }
@@ -67,7 +67,7 @@ impl Model for PacketStore {
 }
 
 impl PacketStore {
-    /// A store without buffers. It allocates no memory.
+    /// Makes a store without buffers, and allocates no memory.
     pub fn new(alloc: Global) -> PacketStore
         ensures { result ≡ record { all = 0; free = 0 } }
     {
@@ -84,7 +84,8 @@ impl PacketStore {
         self.free.len()
     }
 
-    /// Allocates buffers until there are `all` of them in total. Returns `NoMemory` if memory runs out; some buffers may have been added by then.
+    /// Allocates buffers until there are at least `all` buffers in total, free or in use. Returns `NoMemory` if memory runs out; some buffers may
+    /// have been added by then.
     pub fn grow(&mut self, alloc: Global, all: usize) -> Result<(), NoMemory>
         ensures enough { OnOk result (all ≤ self.new.all) }
         ensures free { self.old.free ≤ self.new.free }
@@ -109,7 +110,8 @@ impl PacketStore {
         Ok(())
     }
 
-    /// Deallocates free buffers until there are `all` buffers in total, or none is free. If there are at most `all` already, nothing changes.
+    /// Deallocates free buffers until there are `all` buffers in total, or until no buffer is free. If there are already at most `all` buffers,
+    /// nothing changes.
     pub fn shrink(&mut self, all: usize)
         ensures all { self.new.all ≡ self.old.all - min self.old.free (self.old.all - all) }
         ensures free { self.new.free ≡ self.old.free - min self.old.free (self.old.all - all) }
@@ -119,7 +121,7 @@ impl PacketStore {
         }
     }
 
-    /// Copies an RTP packet of at most 1,536 bytes into a free buffer, and returns a reference to it. Returns `None` if no buffer is free. It
+    /// Copies an RTP packet of at most 1,536 bytes into a free buffer, and returns a reference to it. Returns `None` if no buffer is free. The call
     /// allocates no memory.
     pub fn put(&mut self, packet: &[u8]) -> Option<SharedPacket>
         requires reads { first_fault packet.now ≡ None }
@@ -138,7 +140,7 @@ impl PacketStore {
         Some(SharedPacket { packet: buf })
     }
 
-    /// Drops one reference to a packet. When the last reference is dropped, the packet's buffer goes back to the pool. It allocates no memory.
+    /// Drops one reference to a packet. When the last reference is dropped, the packet's buffer goes back to the pool. The call allocates no memory.
     /// If a `SharedPacket` is dropped without this call, the pool may lose its buffer.
     #[inline(always)]
     pub fn release(&mut self, packet: SharedPacket)

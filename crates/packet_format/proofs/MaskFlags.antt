@@ -23,7 +23,7 @@ use Rattle.dd_descriptor.proofs.Again.{flag_again}
 use Rattle.dd_descriptor.proofs.LaidFound.{content_from, head_laid, length-flag_bits}
 use Rattle.dd_descriptor.proofs.Remasked.{laid_parts, parts_laid, with_mask-laid}
 use Rattle.packet_format.specs.Remasked.{new_value, value_with}
-use Rattle.packet_format.specs.Telling.{tells_in}
+use Rattle.packet_format.specs.CarriedMask.{carries_mask_in}
 use Rattle.packet_format.specs.WholeBytes.{whole_bytes}
 
 pub new_value_laid : (bytes : List ℕ) (force : Option TemplateStructure) (c : Content) (mask : ℕ) → (d : IsDescriptor bytes force c) → new_value force mask (Some bytes) ≡ Some (whole_bytes (remasked d mask))
@@ -103,14 +103,14 @@ behind_head bits x e =
     sym (ap (drop 24) (head_laid bits x e ∙ same) ∙ drop_at front x.1 24 len)
 
 -- a structure or a mask is carried exactly if one of the first two flags is set
-flags_tell : (bytes : List ℕ) (x : Head × List Bool) (f : Flags × List Bool) → AreBytes bytes → head_at (bits_of_bytes bytes) ≡ Ok x → flags_in (length bytes) x.1 ≡ Ok f
-    → tells_in (Some bytes) ≡ (f.0.mask || f.0.structure)
+flags_carry_mask : (bytes : List ℕ) (x : Head × List Bool) (f : Flags × List Bool) → AreBytes bytes → head_at (bits_of_bytes bytes) ≡ Ok x → flags_in (length bytes) x.1 ≡ Ok f
+    → carries_mask_in (Some bytes) ≡ (f.0.mask || f.0.structure)
 unfolding flags_in bits_of bits_of_bytes
-flags_tell [] x f are eh ef = ap (λ (p : Flags × List Bool). p.0.mask || p.0.structure) (ok_is {E = DdFault} (no_flags, x.1) f ef)
-flags_tell (a ∷ []) x f are eh ef = ap (λ (p : Flags × List Bool). p.0.mask || p.0.structure) (ok_is {E = DdFault} (no_flags, x.1) f ef)
-flags_tell (a ∷ b ∷ []) x f are eh ef = ap (λ (p : Flags × List Bool). p.0.mask || p.0.structure) (ok_is {E = DdFault} (no_flags, x.1) f ef)
-flags_tell (a ∷ b ∷ c ∷ []) x f are eh ef = ap (λ (p : Flags × List Bool). p.0.mask || p.0.structure) (ok_is {E = DdFault} (no_flags, x.1) f ef)
-flags_tell (a ∷ b ∷ c ∷ d ∷ rest) x f are eh ef =
+flags_carry_mask [] x f are eh ef = ap (λ (p : Flags × List Bool). p.0.mask || p.0.structure) (ok_is {E = DdFault} (no_flags, x.1) f ef)
+flags_carry_mask (a ∷ []) x f are eh ef = ap (λ (p : Flags × List Bool). p.0.mask || p.0.structure) (ok_is {E = DdFault} (no_flags, x.1) f ef)
+flags_carry_mask (a ∷ b ∷ []) x f are eh ef = ap (λ (p : Flags × List Bool). p.0.mask || p.0.structure) (ok_is {E = DdFault} (no_flags, x.1) f ef)
+flags_carry_mask (a ∷ b ∷ c ∷ []) x f are eh ef = ap (λ (p : Flags × List Bool). p.0.mask || p.0.structure) (ok_is {E = DdFault} (no_flags, x.1) f ef)
+flags_carry_mask (a ∷ b ∷ c ∷ d ∷ rest) x f are eh ef =
     let long = lt-ltb 3 (length (a ∷ b ∷ c ∷ d ∷ rest)) (omega arith) in
     let bits : x.1 ≡ bits_of_bytes (d ∷ rest) = behind_head (bits_of_bytes (a ∷ b ∷ c ∷ d ∷ rest)) x eh ∙ three_bytes a b c (d ∷ rest) in
     let read : flags_at x.1 ≡ Ok f = ap (λ (p : Bool). if p then flags_at x.1 else Ok (no_flags, x.1)) (sym long) ∙ ef in
@@ -118,9 +118,9 @@ flags_tell (a ∷ b ∷ c ∷ d ∷ rest) x f are eh ef =
     let found = first_flags (eqb (d / 128 % 2) 1) (eqb (d / 64 % 2) 1) (bits_of 6 d ++ bits_of_bytes rest) f here in
     rw (long, found.0, found.1) (two_bits d (are 3))
 
-pub tells_mask : (bytes : List ℕ) (force : Option TemplateStructure) (c : Content) → AreBytes bytes → descriptor_at bytes force ≡ Ok c → tells_in (Some bytes) ≡ is_some c.mask
+pub descriptors_carry_mask : (bytes : List ℕ) (force : Option TemplateStructure) (c : Content) → AreBytes bytes → descriptor_at bytes force ≡ Ok c → carries_mask_in (Some bytes) ≡ is_some c.mask
 unfolding descriptor_at held_body_at body_at
-tells_mask bytes force c are e0 =
+descriptors_carry_mask bytes force c are e0 =
     bind_then (head_at (bits_of_bytes bytes)) _ c e0 (λ head eh e1.
     bind_then (flags_in (length bytes) head.1) _ c e1 (λ flags ef e2.
     bind_then (carried_at flags.0.structure flags.1) _ c e2 (λ carried ec e3.
@@ -129,7 +129,7 @@ tells_mask bytes force c are e0 =
     bind_then (mask_at flags.0.mask (is_some carried.0) s.target_count carried.1) _ body e5 (λ mask em e6.
     bind_then (index_at head.0.template s) _ body e6 (λ index ei e7.
     bind_then (frame_at flags.0 s index mask.1) _ body e7 (λ frame ek e8.
-    flags_tell bytes head flags are eh ef
+    flags_carry_mask bytes head flags are eh ef
     ∙ ap (λ (b : Bool). flags.0.mask || b) (sym (carried_some flags.0.structure flags.1 carried ec))
     ∙ sym (mask_some flags.0.mask (is_some carried.0) s.target_count carried.1 mask em)
     ∙ ap (λ (y : (Option ℕ × FrameContent) × List Bool). is_some y.0.0) (ok_is {E = DdFault} ((mask.0, frame.0), frame.1) body e8)

@@ -32,7 +32,7 @@ use Rattle.dd_layout.proofs.Layouts.{same_structure}
 use Rattle.packet_format.specs.Formats.{descriptor_in, element_in, element_of, format_of, payload_in, reading_of}
 use Rattle.packet_format.specs.WholeBytes.{whole_bytes}
 use Rattle.packet_format.specs.Remasked.{at_most, new_value, remasked, value_with, with_extension, with_value}
-use Rattle.packet_format.specs.RemaskedReads.{CarriedStructuresDecide, FirstPacketsShow, IsRemasked, PacketsAreRemasked, RemaskedPacketsShow, telling}
+use Rattle.packet_format.specs.RemaskedReads.{CarriedStructuresDecide, FirstPacketsShow, IsRemasked, PacketsAreRemasked, RemaskedPacketsShow, remasked_as}
 use Rattle.packet_format.proofs.Extended.{IsExtended, extended, length-with_extension}
 use Rattle.packet_format.proofs.Formats.{is_read, well_carried, well_in_force}
 use Rattle.packet_format.proofs.Reblocked.{new_elements, new_profile_small}
@@ -256,10 +256,10 @@ remasked_shows id mask s force rest new d payload carried small e by e_shown =
     let value = whole_bytes (with_mask m.its_parts mask) in
     let reads = value_reads m.descriptor s force read.content m.its_parts mask (well_carried id s carried) small holds
     (ap (λ (x : List ℕ). descriptor_at x force) (sym same_descriptor) ∙ read.reads) m.parts in
-    let descriptor : (format_of id).descriptor force new ≡ Reads (telling mask d) =
-    ap (descriptor_in force) is.found ∙ ap reading_of reads ∙ ap (λ (x : Descriptor TemplateStructure). Reads (telling mask x)) read.is in
+    let descriptor : (format_of id).descriptor force new ≡ Reads (remasked_as mask d) =
+    ap (descriptor_in force) is.found ∙ ap reading_of reads ∙ ap (λ (x : Descriptor TemplateStructure). Reads (remasked_as mask x)) read.is in
     ap₂ (shown_by (format_of id) force) (ap payload_in is.packet.payload ∙ old.payload) descriptor
-    ∙ ap (λ (b : Bool). cond b (Shows (telling mask d) payload) Unread) old.obeys
+    ∙ ap (λ (b : Bool). cond b (Shows (remasked_as mask d) payload) Unread) old.obeys
 
 -- if the frame isn't a key frame, its first packet carries its structure or none
 structure_first : (id : ℕ) (s : TemplateStructure) (force : Option TemplateStructure) (key : Bool) (d : Descriptor TemplateStructure) → is_key_start d ≡ key → (key ≡ true → d.structure ≡ Some s)

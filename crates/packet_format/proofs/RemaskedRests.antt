@@ -8,8 +8,8 @@ use Rattle.dd_structure.specs.TemplateStructure.{TemplateStructure}
 use Rattle.packet_format.specs.Formats.{element_in, element_of}
 use Rattle.packet_format.specs.Packets.{packet_of}
 use Rattle.packet_format.specs.Remasked.{at_most, new_value, or_same, remasked, remasked_bytes, remasked_packet, with_extension, with_value}
-use Rattle.packet_format.specs.Telling.{tells_in}
-use Rattle.packet_format.specs.RemaskedReads.{IsRemasked, RestsAreRemasked, RestsTell}
+use Rattle.packet_format.specs.CarriedMask.{carries_mask_in}
+use Rattle.packet_format.specs.RemaskedReads.{IsRemasked, RestsAreRemasked, RestsCarryMask}
 use Rattle.packet_format.proofs.Extended.{extension_rewritten}
 use Rattle.packet_format.proofs.Packets.{rests_same}
 use Rattle.packet_format.proofs.Remasked.{packets_remasked}
@@ -68,5 +68,5 @@ module _ (id mask : ℕ) (force : Option TemplateStructure) (bytes : List ℕ) (
 pub rests_remasked : RestsAreRemasked
 rests_remasked id mask force bytes long = rest_remasked id mask force bytes long
 
-pub rests_tell : RestsTell
-rests_tell id bytes long = ap tells_in (ap₂ (element_in id) (rests_same.profile bytes long) (rests_same.block bytes long))
+pub rests_carry_mask : RestsCarryMask
+rests_carry_mask id bytes long = ap carries_mask_in (ap₂ (element_in id) (rests_same.profile bytes long) (rests_same.block bytes long))

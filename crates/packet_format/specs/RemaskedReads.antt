@@ -9,12 +9,12 @@ use Rattle.rtp_packet.specs.Fields.{csrc_count, marker_of, payload_type_of, sequ
 use Rattle.dd_structure.specs.TemplateStructure.{TemplateStructure}
 use Rattle.packet_format.specs.Formats.{element_of, format_of}
 use Rattle.packet_format.specs.Packets.{packet_of}
-use Rattle.packet_format.specs.Telling.{tells}
+use Rattle.packet_format.specs.CarriedMask.{carries_mask}
 use Rattle.packet_format.specs.Remasked.{remasked, remasked_bytes, remasked_packet}
 
 -- a descriptor with this mask
-abbrev pub telling : ℕ → Descriptor TemplateStructure → Descriptor TemplateStructure
-telling mask d = record d { mask = Some mask }
+abbrev pub remasked_as : ℕ → Descriptor TemplateStructure → Descriptor TemplateStructure
+remasked_as mask d = record d { mask = Some mask }
 
 -- The new bytes are those of the same packet, except for its header extension. In the header extension, the other elements keep their values.
 pub record IsRemasked (id : ℕ) (bytes new : List ℕ) : Type 0 where
@@ -39,7 +39,7 @@ abbrev pub RemaskedPacketsShow : Type 0
 RemaskedPacketsShow = (id mask : ℕ) (s : TemplateStructure) (force : Option TemplateStructure) (rest new : List ℕ) (d : Descriptor TemplateStructure)
     (payload : Payload)
     → IsCarried (format_of id) s → mask < 2 ^ s.target_count → remasked id (Some s) mask rest ≡ Some new
-    → read_by force d.structure ≡ Some s → shown (format_of id) force rest ≡ Shows d payload → shown (format_of id) force new ≡ Shows (telling mask d) payload
+    → read_by force d.structure ≡ Some s → shown (format_of id) force rest ≡ Shows d payload → shown (format_of id) force new ≡ Shows (remasked_as mask d) payload
 
 -- a frame's first packet has this descriptor when read with its structure, and for a key frame when read with any structure or none
 abbrev pub ShowsFirst : ℕ → TemplateStructure → Bool → List ℕ → Descriptor TemplateStructure → Payload → Type 0
@@ -50,7 +50,7 @@ ShowsFirst id s key rest d payload =
 abbrev pub FirstPacketsShow : Type 0
 FirstPacketsShow = (id mask : ℕ) (s : TemplateStructure) (key : Bool) (rest : List ℕ) (d : Descriptor TemplateStructure) (payload : Payload)
     → IsCarried (format_of id) s → mask < 2 ^ s.target_count → is_key_start d ≡ key → (key ≡ true → d.structure ≡ Some s)
-    → (new : List ℕ) → remasked id (Some s) mask rest ≡ Some new → ShowsFirst id s key rest d payload → ShowsFirst id s key new (telling mask d) payload
+    → (new : List ℕ) → remasked id (Some s) mask rest ≡ Some new → ShowsFirst id s key rest d payload → ShowsFirst id s key new (remasked_as mask d) payload
 
 -- If the descriptor carries a structure, the remasked packet is the same whichever structure is in force.
 abbrev pub CarriedStructuresDecide : Type 0
@@ -65,5 +65,5 @@ RestsAreRemasked = (id mask : ℕ) (force : Option TemplateStructure) (bytes : L
     → packet_of (remasked_bytes id force mask bytes) ≡ remasked_packet id force mask (packet_of bytes)
 
 -- Whether the descriptor says which decode targets are active is the same for the packet and for its rest.
-abbrev pub RestsTell : Type 0
-RestsTell = (id : ℕ) (bytes : List ℕ) → 12 ≤ length bytes → tells id (packet_of bytes).rest ≡ tells id bytes
+abbrev pub RestsCarryMask : Type 0
+RestsCarryMask = (id : ℕ) (bytes : List ℕ) → 12 ≤ length bytes → carries_mask id (packet_of bytes).rest ≡ carries_mask id bytes

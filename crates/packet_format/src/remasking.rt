@@ -8,7 +8,7 @@ ghost use Rattle.rtp_packet.specs.Fields.{behind_header, csrc_count};
 ghost use Rattle.packet_format.specs.Remasked.{at_most, new_value, remasked, with_extension};
 
 use crate::look::descriptor_bytes;
-use dd_descriptor::{RemaskRoom, remask_lowest};
+use dd_descriptor::{RemaskBuf, remask_lowest};
 use dd_structure::Structure;
 use sfu_base::{NoFit, PacketBuf};
 
@@ -18,16 +18,17 @@ const FIXED_HEADER: usize = 12;
 /// The length of a CSRC identifier, in bytes.
 const CSRC: usize = 4;
 
-/// The length of the header extension's profile and length fields, in bytes (RFC 3550, section 5.3.1).
+/// The size of the header extension's first two fields (profile and length), in bytes (RFC 3550, section 5.3.1).
 const EXTENSION_HEADER: usize = 4;
 
-/// The largest length of a remasked packet, in bytes.
+/// The largest length of a packet with a new mask, in bytes.
 const MOST: usize = 1536;
 
-/// Replaces the mask in packets. A remasker reuses its working memory of some 12 KB, so that it needn't be cleared for each packet.
+/// Replaces the mask (active_decode_targets_bitmask) in packets. A remasker reuses its working memory of some 12 KB. The memory is cleared once, and
+/// not for each packet.
 #[derive(Drop)]
 pub struct Remasker {
-    room: RemaskRoom,
+    buf: RemaskBuf,
     value: PacketBuf,
     extension: PacketBuf,
 }
@@ -38,23 +39,24 @@ impl Remasker {
     ghost use Rattle.rtp_packet.specs.Faults.{first_fault};
     ghost use Rattle.packet_format.specs.Remasked.{remasked};
 
-    /// A remasker that can be used for any packet.
+    /// Returns a remasker that can be used for any packet.
     pub fn new() -> Remasker {
         Remasker {
-            room: RemaskRoom::new(),
+            buf: RemaskBuf::new(),
             value: PacketBuf::new(),
             extension: PacketBuf::new(),
         }
     }
 
-    /// Replaces the contents of `out` with the packet, but with another mask in its dependency descriptor (AV1 RTP payload format, Appendix A).
-    /// Bit i of the mask says whether decode target i is active. Bit 0 is the lowest, and bits after the last decode target are left out. The
-    /// descriptor is the value of the first header extension element with this id (RFC 8285). The elements keep their order. A new descriptor
-    /// of more than 16 bytes turns the one-byte form into the two-byte form. Fixed header, CSRC identifiers, payload and padding (RFC 3550,
-    /// section 5.1) are copied bit by bit. Returns `NoFit` and leaves `out` unchanged if there is no descriptor, or if it can't be parsed with
-    /// the structure `force`. The same happens if the new descriptor would exceed 255 bytes, or the new packet 1,536 bytes.
+    /// Replaces the contents of `out` with a copy of the packet. The copy has `mask` in its dependency descriptor (AV1 RTP payload format, Appendix
+    /// A). Bit i of the mask says whether decode target i is active. Bit 0 is the lowest bit. Bits above that of the last decode target are ignored.
+    /// The descriptor is the value of the first header extension element with the id `id` (RFC 8285). The elements keep their order. If the new
+    /// descriptor has more than 16 bytes, the one-byte form of the header extension becomes the two-byte form. The fixed header, CSRC identifiers,
+    /// payload and padding (RFC 3550, section 5.1) are copied unchanged. Returns `NoFit` and leaves `out` unchanged if there is no descriptor, or if
+    /// the descriptor can't be parsed with `force` as the structure in force. The same happens if the new descriptor would be longer than 255 bytes,
+    /// or the new packet longer than 1,536 bytes.
     ///
-    /// The packet must be an RTP packet.
+    /// `packet` must be an RTP packet.
     pub fn remask(
         &mut self,
         packet: &[u8],
@@ -77,7 +79,7 @@ impl Remasker {
         let Some(descriptor) = descriptor_bytes(&parts, id) else {
             return Err(NoFit);
         };
-        fill_value(descriptor, force, mask, &mut self.room, &mut self.value)?;
+        fill_value(descriptor, force, mask, &mut self.buf, &mut self.value)?;
         let value = self.value.bytes();
         self.extension.fill(&[]);
         rtp_extension::reblock(profile, parts.block, id, value, &mut self.extension)?;
@@ -92,18 +94,18 @@ impl Default for Remasker {
     }
 }
 
-/// Replaces the contents of `out` with the descriptor, but with this mask in place of its own.
+/// Replaces the contents of `out` with a copy of the descriptor. The copy has the mask `mask`.
 fn fill_value(
     descriptor: &[u8],
     force: Option<&Structure>,
     mask: u32,
-    room: &mut RemaskRoom,
+    buf: &mut RemaskBuf,
     out: &mut PacketBuf,
 ) -> Result<(), NoFit>
     ensures ok { OnOk result (at_most 255 (new_value (option_copied force.entry) mask (Some descriptor.now)) ≡ Some out.new) }
     ensures err { OnErr result (at_most 255 (new_value (option_copied force.entry) mask (Some descriptor.now)) ≡ None) }
 {
-    let result = remask_lowest(descriptor, force, mask, room, out);
+    let result = remask_lowest(descriptor, force, mask, buf, out);
     lemma_are_bytes(out.bytes());
     result
 }
@@ -115,7 +117,7 @@ fn lemma_are_bytes(bytes: &[u8])
     let _ = bytes;
 }
 
-/// Replaces the contents of `out` with the packet, but with `extension` in place of the packet's header extension of `old` bytes.
+/// Copies the packet to `out`, but with `extension` as its header extension. The packet's own header extension has `old` bytes.
 fn fill_packet(
     packet: &[u8],
     old: usize,

@@ -16,18 +16,19 @@ use dd_descriptor::{DdFault, Descriptor, NewestDescriptor};
 use dd_structure::Structure;
 use rtp_packet::Rtp;
 
-/// The result of reading a packet with the structure in force.
+/// The result of reading a packet, given the structure in force.
 #[derive(Clone, Copy, Debug, PartialEq, Eq)]
 pub enum Shown {
     /// The packet's descriptor carries no structure, and none is in force.
     LacksStructure,
-    /// The packet's descriptor is missing or can't be parsed. Or it carries a structure that differs from the one in force, and doesn't begin a key frame.
+    /// The packet's descriptor is missing or can't be parsed. Or the descriptor carries a structure that differs from the one in force, and the packet
+    /// doesn't begin a key frame.
     Unread,
-    /// The packet's descriptor was parsed, and its payload has these flags.
+    /// The packet's descriptor was read, and the packet's payload has these flags.
     Shows(PayloadFlags),
 }
 
-/// Reads a packet with the structure in force. If the packet has a descriptor that can be parsed, `newest` has that descriptor afterwards.
+/// Reads a packet. `force` is the structure in force. If the packet has a descriptor that can be parsed, `newest` has that descriptor afterwards.
 /// Otherwise `newest` may have any contents.
 pub fn show(
     packet: &Rtp<'_>,
@@ -54,7 +55,7 @@ pub fn show(
     }
 }
 
-/// The result of reading a packet whose descriptor has this fault.
+/// Returns the result of reading a packet whose descriptor has this fault.
 fn of_fault(fault: DdFault) -> Shown
     ensures { result ≡ fault_shown fault }
 {
@@ -64,7 +65,7 @@ fn of_fault(fault: DdFault) -> Shown
     }
 }
 
-/// Whether the descriptor obeys the structure rule: only the first packet of a key frame may carry a structure that differs from the one in force.
+/// Returns whether the descriptor obeys the structure rule: only the first packet of a key frame may carry a structure that differs from the one in force.
 fn obeys(descriptor: &Descriptor, force: Option<&Structure>) -> bool
     requires { descriptor.now.ref_count ≤ 16 }
     ensures { result ≡ obeys_structure structures_alone (option_copied force.entry) (said (content_of (option_copied force.entry) descriptor.now)) }
@@ -85,7 +86,8 @@ fn is_in_force(structure: &Structure, force: Option<&Structure>) -> bool
     }
 }
 
-/// Whether a descriptor begins a key frame: it carries a structure, has the start bit, and has no references.
+/// Returns whether a descriptor begins a key frame. That is so if and only if the descriptor carries a structure, has start_of_frame set, and has no
+/// references to other frames.
 pub fn begins_epoch(descriptor: &Descriptor) -> bool
     requires { descriptor.now.ref_count ≤ 16 }
     ensures { (force : Option TemplateStructure) → result ≡ is_key_start (said (content_of force descriptor.now)) }

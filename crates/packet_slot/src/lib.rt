@@ -11,7 +11,7 @@ pub const PACKET_BYTES: usize = 1500;
 /// A buffer of up to 1,500 bytes. Contracts see it as the list of its bytes. No call allocates memory.
 #[derive(Debug, Drop)]
 pub struct PacketSlot {
-    room: [u8; PACKET_BYTES],
+    buf: [u8; PACKET_BYTES],
     // the index of the first byte; the bytes end at the end of the array
     start: usize,
 }
@@ -21,7 +21,7 @@ impl Model for PacketSlot {
 
     ghost Value = { List ℕ };
 
-    ghost view = { λ p. drop p.start p.room };
+    ghost view = { λ p. drop p.start p.buf };
 
     ghost invariant = { λ p. p.start ≤ 1500 };
 }
@@ -32,18 +32,18 @@ impl PacketSlot {
         ensures { result ≡ [] }
     {
         PacketSlot {
-            room: [0; PACKET_BYTES],
+            buf: [0; PACKET_BYTES],
             start: PACKET_BYTES,
         }
     }
 
-    /// Replaces the contents by these bytes, at most 1,500.
+    /// Replaces the contents with these bytes. There may be at most 1,500 bytes.
     pub fn fill(&mut self, bytes: &[u8])
         requires fits { length bytes.now ≤ 1500 }
         ensures { self.new ≡ bytes.now }
     {
         let start = PACKET_BYTES - bytes.len();
-        self.room[start..].copy_from_slice(bytes);
+        self.buf[start..].copy_from_slice(bytes);
         self.start = start;
     }
 
@@ -52,6 +52,6 @@ impl PacketSlot {
         ensures bytes { result.now ≡ self.now }
         ensures bounded { length self.now ≤ 1500 }
     {
-        &self.room[self.start..]
+        &self.buf[self.start..]
     }
 }

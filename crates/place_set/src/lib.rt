@@ -1,5 +1,5 @@
-//! A set of places (indices) of a table, for example of the entries of one group. The
-//! set has a bit for each of 256 places, is of fixed size, and allocates no memory.
+//! A set of places (indices) in a table: for example, the places of one group's entries. The set has a fixed size, with one bit for each of 256
+//! places. It allocates no memory.
 #![tactic(auto)]
 
 mod set;

@@ -4,15 +4,15 @@ ghost use Rattle.place_set.specs.Places.{ChangesPlace, IsFirstFrom, IsLowest, ha
 
 use std::marker::Model;
 
-/// The number of places, which are 0 to 255.
+/// The number of places. The places are 0 to 255.
 const PLACES: usize = 256;
 
-/// The number of words in a set, each of `WORD_BITS` bits.
+/// The number of words in a set. Each word has `WORD_BITS` bits.
 const WORDS: usize = 4;
 
 const WORD_BITS: usize = 64;
 
-/// A set of places below 256. Clauses see its four words; `has_place` says which places are in it.
+/// A set of places below 256. Contracts see the set's four words, and `has_place` says which places are in the set.
 #[derive(Debug, Drop)]
 pub struct PlaceSet {
     words: [u64; WORDS],
@@ -50,7 +50,7 @@ impl PlaceSet {
         self.words[place / WORD_BITS] &= !(1 << (place % WORD_BITS));
     }
 
-    /// Returns the least place of the set that is at least `from`, or `None` if there is none.
+    /// Returns the lowest place in the set, counting only `from` and higher places. Returns `None` if there is none.
     #[inline(always)]
     pub fn first_from(&self, from: usize) -> Option<usize>
         ensures first { IsFirstFrom self.now from result }

@@ -9,5 +9,5 @@ mod writing;
 
 pub use lists::{put_all, put_last};
 pub use reading::read_actors;
-pub use turns::{Placed, in_order, told};
+pub use turns::{Placed, in_order, journal_entry};
 pub use writing::text_of;

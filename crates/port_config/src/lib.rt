@@ -1,9 +1,10 @@
-//! Reads small texts to their end before a command begins: scripts of actors, and configurations of ports. Also writes the journal of the actors' turns.
+//! Reads a small text to its end before a command begins: a script of actors or a configuration of ports. Also makes the journal of the actors' turns, and
+//! the journal's text.
 #![tactic(auto)]
 
 mod actors;
 mod ports;
 mod reading;
 
-pub use actors::{Placed, in_order, put_all, put_last, read_actors, text_of, told};
+pub use actors::{Placed, in_order, journal_entry, put_all, put_last, read_actors, text_of};
 pub use ports::{Served, read_served};

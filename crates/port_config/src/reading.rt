@@ -8,8 +8,8 @@ use sfu_base::{Sink, Source};
 use sfu_driver::{Judge, Lines, Status, Units, drive};
 use std::alloc::Global;
 
-/// Passes all lines of the source to the judge, and returns the judge. An error is the command's status: 3 if the source
-/// can't be read, 4 if the sink fails, 6 if memory runs out. If the judge ends the command, it is the status of that end.
+/// Passes all lines of the source to the judge, and then returns the judge. On an error, returns the command's status: 3 if the source can't be read, 4 if
+/// the sink fails, 6 if memory runs out. If the judge ends the command, the status says why: for example, 5 if a line is outside the grammar.
 pub fn read_all<J: Judge + Drop, S: Source, K: Sink>(
     alloc: Global,
     judge: J,

@@ -1,5 +1,5 @@
-//! A set of the frame numbers that a later frame can still refer to. Numbers are inserted in ascending order, and those at most 4,096 below the
-//! greatest are kept. The set has a fixed size and allocates no memory.
+//! A set of frame numbers to which a later frame can still refer. Numbers are inserted in ascending order. The set keeps the greatest number, and the
+//! inserted numbers at most 4,096 below it. The set has a fixed size and allocates no memory.
 #![tactic(auto)]
 
 mod laws;

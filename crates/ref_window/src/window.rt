@@ -5,8 +5,8 @@ ghost use Rattle.ref_window.specs.Numbers.{AreBelow, AreExactlyBelow, IsAboveAll
 use crate::words::{SPAN, WORD_BITS, WORDS, Words, bit, clear_all, move_on};
 use std::marker::Model;
 
-/// The numbers inserted since the last reset that are at most 4,096 below the greatest of them. Contracts see the window as the list of these
-/// numbers, the newest first.
+/// The numbers that were inserted since the last reset, except those more than 4,096 below the greatest. Contracts see the window as the list of the
+/// numbers that it contains, the newest first.
 #[derive(Debug, Drop)]
 pub struct RefWindow {
     // the greatest number, and bits for the numbers below it; meaningless if the window is empty
@@ -28,7 +28,7 @@ impl Model for RefWindow {
 }
 
 impl RefWindow {
-    /// An empty window.
+    /// Returns an empty window.
     pub fn new() -> RefWindow
         ensures { result ≡ [] }
     {
@@ -52,8 +52,9 @@ impl RefWindow {
         self.greatest - number <= SPAN && bit(&self.words, number)
     }
 
-    /// Returns a mask of the window's numbers right below `number`. If `number` is above all of them, then for d from 1 to 63, bit d (bit 0 is
-    /// the lowest) is set exactly if the window contains `number - d`. Bit 0 is never set. If `number` isn't above all of them, the mask is 0.
+    /// Returns a bit mask that says which of the 63 numbers below `number` the window contains. Suppose that `number` is above all numbers in the window.
+    /// Then, for each d from 1 to 63, bit d is set exactly if the window contains `number - d`. Bit 0, the lowest bit, is never set. If `number` isn't
+    /// above all numbers in the window, the mask is 0.
     #[inline(always)]
     pub fn right_below(&self, number: u64) -> u64
         ensures held { AreBelow self.now number result }
@@ -66,8 +67,8 @@ impl RefWindow {
         self.recent << (number - self.greatest)
     }
 
-    /// If `number` is above all numbers inserted since the last reset, inserts it and forgets the numbers more than 4,096 below it. Any other
-    /// number changes nothing.
+    /// Inserts `number` if it is above all numbers inserted since the last reset, and then forgets all numbers more than 4,096 below `number`. Otherwise
+    /// nothing changes.
     pub fn insert(&mut self, number: u64)
         ensures inserted { IsAboveAll number self.old → self.new ≡ held_of (number ∷ self.old) }
         ensures refused { (IsAboveAll number self.old → ⊥) → self.new ≡ self.old }

@@ -3,13 +3,13 @@ ghost use Rattle.std.specs.Prelude.{◌≡◌, ◌∷◌, ◌+◌, ◌/◌, ◌%
 ghost use Rattle.ref_window.specs.Numbers.{held_of};
 ghost use Rattle.ref_window.specs.Words.{ChangesBit, ClearsBits, has_bit, held_in};
 
-/// A kept number is at most this far below the greatest one.
+/// Each number that the window keeps is at most this far below the greatest number.
 pub const SPAN: u64 = 4096;
 
-/// The number of words in the ring. Each has `WORD_BITS` bits.
+/// The number of words in the ring. Each word has `WORD_BITS` bits.
 pub const WORDS: usize = 64;
 
-/// The number of bits of a word.
+/// The number of bits in a word.
 pub const WORD_BITS: u64 = 64;
 
 /// `SPAN` bits.
@@ -22,7 +22,7 @@ fn word_of(number: u64) -> usize
     (number / WORD_BITS % WORDS as u64) as usize
 }
 
-/// Whether a number's bit is 1.
+/// Whether the bit of `number` is 1.
 pub fn bit(words: &Words, number: u64) -> bool
     ensures { result ≡ has_bit words.now number }
 {
@@ -77,7 +77,7 @@ pub fn clear_all(words: &mut Words)
     *words = [0; WORDS];
 }
 
-/// Inserts `number`, which is above `greatest`, and clears the bits of the numbers that leave the window.
+/// Inserts `number`, which is above `greatest`. Clears the bits of the numbers that leave the window.
 pub fn move_on(words: &mut Words, greatest: u64, number: u64)
     requires { greatest < number }
     ensures { held_in (Some number) words.new ≡ held_of (number ∷ held_in (Some greatest) words.old) }

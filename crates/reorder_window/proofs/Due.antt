@@ -6,7 +6,7 @@ use Rattle.std.proofs.lemmas.Bool.{cond_both, cond-true, cond-false, cases_lt, n
 use Rattle.reorder_window.specs.Events.{Held}
 use Rattle.reorder_window.specs.Order.{past_due, order_of}
 use Rattle.reorder_window.specs.Slots.{Kept, and_kept, held_in}
-use Rattle.reorder_window.specs.Due.{lowest_moment, due_after, IsReached, TellsTheTick}
+use Rattle.reorder_window.specs.Due.{lowest_moment, due_after, IsReached, GivesTheTick}
 use Rattle.reorder_window.proofs.Pieces.{IsAscending, past_due-up}
 use Rattle.reorder_window.proofs.Ranges.{held_in-first}
 use Rattle.reorder_window.proofs.Stepwise.{settled_of}
@@ -46,6 +46,6 @@ tells hold moment next (h ∷ rest) up fits = elim (cases_lt moment (h.moment + 
       (λ p. reached hold h.moment moment fits due, λ p. omega (arith, along, past_due-up hold moment (h.number + 1) rest up.1, up.0))
 ]
 
-pub tells_the_tick : TellsTheTick
-tells_the_tick hold past moment fits =
+pub gives_the_tick : GivesTheTick
+gives_the_tick hold past moment fits =
     tells hold (max (order_of hold past).moment moment) (order_of hold past).next (order_of hold past).held (settled_of hold past).ascending fits

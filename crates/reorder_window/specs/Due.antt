@@ -23,7 +23,7 @@ IsReached None moment = ⊥
 IsReached (Some due) moment = due ≤ moment
 
 -- After any list of events, a tick raises `next` exactly if the track's moment after the tick has reached the due moment. The track's moment is below 2^64.
-abbrev pub TellsTheTick : Type 0
-TellsTheTick = (hold : ℕ) (past : List Event) (moment : ℕ) → max (order_of hold past).moment moment < 2 ^ 64
+abbrev pub GivesTheTick : Type 0
+GivesTheTick = (hold : ℕ) (past : List Event) (moment : ℕ) → max (order_of hold past).moment moment < 2 ^ 64
     → ((order_of hold past).next < next_ticked hold (ticked (order_of hold past) moment))
     ↔ IsReached (due_of hold (order_of hold past)) (max (order_of hold past).moment moment)

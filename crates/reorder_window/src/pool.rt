@@ -12,9 +12,9 @@ use packet_slot::PacketSlot;
 use sfu_base::NoMemory;
 use std::alloc::Global;
 
-/// Packets whose numbers differ modulo [`SPAN`]: `index[n % SPAN]` is the index of the place of the packet with number n. Capacity is reserved for
-/// `SPAN` places. A place is made only when no existing place is free. So the number of places never exceeds the largest number of packets that
-/// were in the pool at the same time.
+/// A pool of packets. No two of them have numbers that are equal modulo [`SPAN`]. The packet with number n is in `places`, at the index `index[n % SPAN]`.
+/// Capacity is reserved for `SPAN` places. A place is made only when no existing place is free. So the number of places never exceeds the largest number
+/// of packets that were in the pool at the same time.
 #[derive(Debug, Drop)]
 pub struct Pool {
     pub index: Vec<Option<u16>>,
@@ -41,7 +41,7 @@ impl Pool {
         })
     }
 
-    /// Returns the moment of the packet with this number, or `None` if the pool doesn't have it.
+    /// Returns the moment of the packet with this number, or `None` if the pool doesn't have this packet.
     pub fn moment(&self, number: u64) -> Option<u64>
         ensures { result ≡ option_map (λ kept. kept.moment) (pool_at self.now.index.items self.now.places.items number) }
     {

@@ -97,8 +97,8 @@ impl Window {
         Ok(())
     }
 
-    /// The time is `moment`, in milliseconds. If the packet after the lowest gap has been buffered for the hold time, the gap is given up. The same
-    /// rule then applies to the next gap, and so on. All waiting items must be fetched before this call.
+    /// Advances the window's time to `moment`, in milliseconds, if that is later. If the packet after the lowest gap has been buffered for the hold time,
+    /// the window gives up this gap. The same rule then applies to the next gap, and so on. All waiting items must be fetched before this call.
     pub fn tick(&mut self, moment: u64)
         requires { self.old.waiting ≡ [] }
         ensures order { self.new.order ≡ after self.old.hold self.old.order (Ticks moment) }
@@ -113,8 +113,8 @@ impl Window {
             .due_end(self.next, self.end, self.moment, self.hold);
     }
 
-    /// Returns the next item that waits to be fetched, or `None` if none waits. If the item is a packet, its bytes are in `slot` afterwards. For the
-    /// packet that arrived last the buffers are swapped; for any other packet the bytes are copied. If the item is a gap, `slot` is unchanged.
+    /// Returns the next item that waits to be fetched, or `None` if no item waits. If the item is a packet, its bytes are in `slot` afterwards. For the
+    /// packet that arrived last, the buffers are swapped. For any other packet, the bytes are copied. If the item is a gap, `slot` is unchanged.
     pub fn next_slot(&mut self, slot: &mut Box<PacketSlot>) -> Option<Item>
         ensures none { IsNone result ↔ (self.old.waiting ≡ []) }
         ensures item { result ≡ option_map item_of (slice_get self.old.waiting 0) }
@@ -140,8 +140,8 @@ impl Window {
         Some(item)
     }
 
-    /// Returns the earliest moment, in milliseconds, at which a tick gives up a gap. This earliest moment is that of the buffered packet with
-    /// the lowest number, plus the hold time. `None` if no packet is buffered, or if the sum is 2^64 or more.
+    /// Returns the earliest moment, in milliseconds, at which a tick gives up a gap. It is the sum of the hold time and the moment of the buffered packet
+    /// with the lowest number. Returns `None` if no packet is buffered, or if this sum is 2^64 or more.
     pub fn due(&self) -> Option<u64>
         ensures { result ≡ due_of self.now.hold self.now.order }
     {
@@ -149,8 +149,8 @@ impl Window {
         lowest.checked_add(u64::from(self.hold))
     }
 
-    /// Replaces the contents of `out` by the missing sequence numbers, ascending by their unwrapped numbers. A number from `next` up to the
-    /// highest buffered one is missing if its packet isn't buffered.
+    /// Replaces the contents of `out` with the missing sequence numbers, in ascending order of their unwrapped numbers. A number between `next` and the
+    /// highest buffered number, `next` included, is missing if its packet isn't buffered.
     pub fn missing(&self, out: &mut SeqList)
         ensures { out.new ≡ missing_sequences self.now.order }
     {
@@ -194,8 +194,8 @@ fn fetch(ring: &mut Ring, given: &mut u64, next: u64, slot: &mut Box<PacketSlot>
     Some(Item::Gone { from, to: end - 1 })
 }
 
-/// Unwraps the sequence number of an arriving packet. Returns `Spent` if the result is 2^46 or more, and
-/// `Late` if it is below `next`. `end` is one above the newest accepted number, or 0 before the first packet.
+/// Unwraps the sequence number of an arriving packet. Returns `Spent` if the unwrapped number is 2^46 or more, and `Late` if it is below `next`. `end` is
+/// one above the newest accepted number, or 0 before the first packet.
 pub fn number_in_range(end: u64, next: u64, seq: u16) -> Result<u64, Arrival>
     requires bounded { end ≤ NUMBER_END }
     requires within { next ≤ end }

@@ -17,7 +17,7 @@ use Rattle.room_core.specs.Serves.{ServesInto}
 use Rattle.room_sessions.proofs.Making.{entry}
 use Rattle.room_sessions.proofs.RoomReplies.{replies, served_replies}
 use Rattle.room_c.specs.Attending.{Ends}
-use Rattle.room_c.specs.Recording.{HasState, never, untold}
+use Rattle.room_c.specs.Recording.{HasState, never, unrecorded}
 
 -- the state with these entries added to its history
 abbrev pub later : Simulcast → List Entry → Simulcast
@@ -28,35 +28,35 @@ append_none [] = refl
 append_none (e ∷ h) = λ i. e ∷ append_none h i
 
 -- before the first call
-pub keeps_none : (b : Bundles KeepNone) (h : Simulcast) → StandsFor untold b h → StandsFor untold b (later h [])
-keeps_none b h at = subst (λ (l : List Entry). StandsFor untold b (record { history = l; made = h.made })) (sym (append_none h.history)) at
+pub keeps_none : (b : Bundles KeepNone) (h : Simulcast) → StandsFor unrecorded b h → StandsFor unrecorded b (later h [])
+keeps_none b h at = subst (λ (l : List Entry). StandsFor unrecorded b (record { history = l; made = h.made })) (sym (append_none h.history)) at
 
 -- after one more call
 pub keeps_one : (old mid new : Bundles KeepNone) (seat : ℕ) (call : Call) (given : Reply) (bytes names : List ℕ) (made : List Entry)
-    → ((h : Simulcast) → StandsFor untold old h → StandsFor untold mid (later h made)) → Calls untold mid new seat call bytes names (Ok given)
-    → (h : Simulcast) → StandsFor untold old h → StandsFor untold new (later h (made ++ entry seat call (is_starved given) ∷ []))
+    → ((h : Simulcast) → StandsFor unrecorded old h → StandsFor unrecorded mid (later h made)) → Calls unrecorded mid new seat call bytes names (Ok given)
+    → (h : Simulcast) → StandsFor unrecorded old h → StandsFor unrecorded new (later h (made ++ entry seat call (is_starved given) ∷ []))
 keeps_one old mid new seat call given bytes names made keeps calls h at =
-    subst (λ (l : List Entry). StandsFor untold new (record { history = l; made = h.made })) (append_assoc h.history made (entry seat call (is_starved given) ∷ []))
+    subst (λ (l : List Entry). StandsFor unrecorded new (record { history = l; made = h.made })) (append_assoc h.history made (entry seat call (is_starved given) ∷ []))
     (by (forbids call h.made) (calls (later h made) (keeps h at)))
   where
-    by : (o : Option ℕ) → CallsAs untold new (later h made) seat call bytes names o (Ok given) → StandsFor untold new (later (later h made) (entry seat call (is_starved given) ∷ []))
+    by : (o : Option ℕ) → CallsAs unrecorded new (later h made) seat call bytes names o (Ok given) → StandsFor unrecorded new (later (later h made) (entry seat call (is_starved given) ∷ []))
     by None says = says.1
     by (Some bundle) says = absurd (let other : Ok given ≡ Err (fault.Bound bundle) = says.0 in cc)
 
 -- the bundle that a refused call names forbids it
 pub stops : (mid new : Bundles KeepNone) (seat : ℕ) (call : Call) (bytes names : List ℕ) (why : BundleFault) (left : ℕ → Doing) → new ≡ mid
-    → Calls untold mid new seat call bytes names (Err why) → IsBound why → ((turns : ℕ) → Asks (left turns) call) → Ends new left (Err why)
+    → Calls unrecorded mid new seat call bytes names (Err why) → IsBound why → ((turns : ℕ) → Asks (left turns) call) → Ends new left (Err why)
 stops mid new seat call bytes names (fault.Bound bundle) left same calls is asks =
-    (call, asks, λ h at. by h (forbids call h.made) (calls h (subst (λ (b : Bundles KeepNone). StandsFor untold b h) same at)))
+    (call, asks, λ h at. by h (forbids call h.made) (calls h (subst (λ (b : Bundles KeepNone). StandsFor unrecorded b h) same at)))
   where
-    by : (h : Simulcast) (o : Option ℕ) → CallsAs untold new h seat call bytes names o (Err (fault.Bound bundle)) → o ≡ Some bundle
+    by : (h : Simulcast) (o : Option ℕ) → CallsAs unrecorded new h seat call bytes names o (Err (fault.Bound bundle)) → o ≡ Some bundle
     by h None says = absurd says
     by h (Some other) says = let named : Err (fault.Bound bundle) ≡ Err (fault.Bound other) = says.0 in cc
 stops mid new seat call bytes names other left same calls is asks = absurd is
 
 -- the session gets a reply to its call
 pub is_reply : (mid new : Bundles KeepNone) (seat : ℕ) (call : Call) (given : Reply) (before after : Scratch) (left : Doing) → Asks left call → HasState mid
-    → ServesInto untold never mid.room new.room seat call given before after → IsReplyIn left given after.packet after.names
+    → ServesInto unrecorded never mid.room new.room seat call given before after → IsReplyIn left given after.packet after.names
 is_reply mid new seat call given before after left asks has serves =
     replies left call given after.packet after.names asks
-    (served_replies untold mid.room new.room seat call given after.packet after.names (∥∥₁_map has (λ s. (s.0.history, s.1.room_is))) serves.serves serves.sendable)
+    (served_replies unrecorded mid.room new.room seat call given after.packet after.names (∥∥₁_map has (λ s. (s.0.history, s.1.room_is))) serves.serves serves.sendable)

@@ -7,10 +7,10 @@ use Rattle.room_core.specs.Serves.{DoesAsServe}
 use Rattle.room_core.specs.declared.recorder.KeepNone.{KeepNone}
 use Rattle.simulcast.specs.Bundles.{CallsWhole}
 use Rattle.simulcast.specs.declared.bundles.Bundles.{Bundles}
-use Rattle.room_c.specs.Recording.{never, untold}
+use Rattle.room_c.specs.Recording.{never, unrecorded}
 
-pub whole_of : (old new : Bundles KeepNone) (seat : ℕ) (call : Call) (reply : Reply) (s : Scratch) → DoesAsServe untold never old.room new.room seat call reply
-    → CallsWhole untold never old new seat call s s (Ok reply)
+pub whole_of : (old new : Bundles KeepNone) (seat : ℕ) (call : Call) (reply : Reply) (s : Scratch) → DoesAsServe unrecorded never old.room new.room seat call reply
+    → CallsWhole unrecorded never old new seat call s s (Ok reply)
 whole_of old new seat call reply s d = record {
   serves = d.serves s.packet s.names;
   headline = d.headline;

@@ -3,7 +3,7 @@ pub mod Lending
 pub mod Codes
 pub mod Recording
 pub mod Reading
-pub mod Telling
+pub mod Numbers
 pub mod Serving
 pub mod Bundling
 pub mod Attending

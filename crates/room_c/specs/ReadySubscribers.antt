@@ -6,16 +6,16 @@ use Rattle.room_core.specs.Serves.{Stands}
 use Rattle.room_c.specs.declared.code.Code.TheVariants.{NoRoom, Ready}
 use Rattle.room_c.specs.declared.home.Home.{Home}
 use Rattle.room_c.specs.declared.plain_reply.PlainReply.{PlainReply}
-use Rattle.room_c.specs.Recording.{untold}
-use Rattle.room_c.specs.Telling.{bare_of, one_of}
+use Rattle.room_c.specs.Recording.{unrecorded}
+use Rattle.room_c.specs.Numbers.{bare_of, one_of}
 
 -- For every history that the room represents: the list has numbers of such subscribers,
 -- each once, and has all of them unless it is full. The reply has their count.
-pub record TellsReady (home : Home) (track limit : ℕ) (told : PlainReply) (listed : List ℕ) : Type 0 where
-  pub asks : (history : List Entry) → Stands untold home.bundles.room history → AreReady track limit (accepted history) listed
-  pub exact : told ≡ one_of Ready (length listed)
+pub record ReportsReady (home : Home) (track limit : ℕ) (rc : PlainReply) (listed : List ℕ) : Type 0 where
+  pub asks : (history : List Entry) → Stands unrecorded home.bundles.room history → AreReady track limit (accepted history) listed
+  pub exact : rc ≡ one_of Ready (length listed)
 
 -- if the handle has no room, nothing is written
 abbrev pub AsksReady : Option Home → (track limit : ℕ) → PlainReply → (listed : List ℕ) → Type 0
-AsksReady None track limit told listed = told ≡ bare_of NoRoom
-AsksReady (Some home) track limit told listed = TellsReady home track limit told listed
+AsksReady None track limit rc listed = rc ≡ bare_of NoRoom
+AsksReady (Some home) track limit rc listed = ReportsReady home track limit rc listed

@@ -6,12 +6,12 @@ use Rattle.simulcast.specs.declared.bundles.Bundles.{Bundles}
 use Rattle.simulcast.specs.Bundles.{Simulcast, StandsFor}
 
 -- the recorder records nothing, and never refuses
-abbrev pub untold : KeepNone → Option (List Noted)
-untold recorder = None
+abbrev pub unrecorded : KeepNone → Option (List Noted)
+unrecorded recorder = None
 
 abbrev pub never : KeepNone → Bool
 never recorder = false
 
 -- the room and its bundles represent some state
 abbrev pub HasState : Bundles KeepNone → Type 0
-HasState bundles = ∥ ((h : Simulcast) × StandsFor untold bundles h) ∥₁
+HasState bundles = ∥ ((h : Simulcast) × StandsFor unrecorded bundles h) ∥₁

@@ -12,16 +12,16 @@ use Rattle.room_c.specs.declared.plain_reply.PlainReply.{PlainReply}
 use Rattle.room_c.specs.declared.tape.Tape.{Tape}
 use Rattle.room_c.specs.declared.tape.Tape.TheVariants.{Taking, Giving}
 use Rattle.room_c.specs.Codes.{code_number}
-use Rattle.room_c.specs.Telling.{bare_of, two_of}
+use Rattle.room_c.specs.Numbers.{bare_of, two_of}
 
 -- ---- opening
 
 -- The handle had no recorder, and now has one without packets. Or it had a recorder, which is unchanged. Or memory ran out.
 abbrev pub OpensRecorder : ℕ → Option Tape → Option Tape → ℕ → Type 0
-OpensRecorder id (Some old) new told = (told ≡ code_number code.HasRecorder) × (new ≡ Some old)
-OpensRecorder id None None told = told ≡ code_number code.NoMemory
-OpensRecorder id None (Some (Taking new)) told = (told ≡ code_number code.Done) × (new.receiver.id ≡ id) × StandsFor new []
-OpensRecorder id None (Some (Giving rest)) told = ⊥
+OpensRecorder id (Some old) new rc = (rc ≡ code_number code.HasRecorder) × (new ≡ Some old)
+OpensRecorder id None None rc = rc ≡ code_number code.NoMemory
+OpensRecorder id None (Some (Taking new)) rc = (rc ≡ code_number code.Done) × (new.receiver.id ≡ id) × StandsFor new []
+OpensRecorder id None (Some (Giving rest)) rc = ⊥
 
 -- ---- a packet
 
@@ -42,22 +42,22 @@ fed_reply (Err fault.Obu) = bare_of code.NotObu
 fed_reply (Err fault.NoMemory) = bare_of code.NoMemory
 
 -- The recorder was fed this packet, and the reply has the result. After a fault it returns that fault, and changes nothing.
-pub record FeedsAs (old new : Recording) (packet : List ℕ) (told : PlainReply) : Type 0 where
+pub record FeedsAs (old new : Recording) (packet : List ℕ) (rc : PlainReply) : Type 0 where
   pub answer : Result (Unit {0}) RecordFault
   pub feeds : (history : List (List ℕ)) → StandsFor old history → FeedsRecorder old.fault old.receiver.id new history packet answer
   pub id : new.receiver.id ≡ old.receiver.id
   pub again : (fault : RecordFault) → old.fault ≡ Some fault → (answer ≡ Err fault) × (new ≡ old)
-  pub tells : told ≡ fed_reply answer
+  pub reply_is : rc ≡ fed_reply answer
 
 abbrev pub FeedsTape : Tape → Tape → List ℕ → PlainReply → Type 0
-FeedsTape (Taking old) (Taking new) packet told = FeedsAs old new packet told
-FeedsTape (Taking old) (Giving rest) packet told = ⊥
-FeedsTape (Giving rest) new packet told = (told ≡ bare_of code.Finished) × (new ≡ Giving rest)
+FeedsTape (Taking old) (Taking new) packet rc = FeedsAs old new packet rc
+FeedsTape (Taking old) (Giving rest) packet rc = ⊥
+FeedsTape (Giving rest) new packet rc = (rc ≡ bare_of code.Finished) × (new ≡ Giving rest)
 
 abbrev pub Feeds : Option Tape → Option Tape → List ℕ → PlainReply → Type 0
-Feeds None new packet told = (told ≡ bare_of code.NoRecorder) × (new ≡ None)
-Feeds (Some old) None packet told = ⊥
-Feeds (Some old) (Some new) packet told = FeedsTape old new packet told
+Feeds None new packet rc = (rc ≡ bare_of code.NoRecorder) × (new ≡ None)
+Feeds (Some old) None packet rc = ⊥
+Feeds (Some old) (Some new) packet rc = FeedsTape old new packet rc
 
 -- ---- the file
 
@@ -74,8 +74,8 @@ abbrev pub piece_reply : (count left : ℕ) → PlainReply
 piece_reply count left = if count == 0 then bare_of code.Done else two_of code.FilePiece count left
 
 -- The next of these bytes that fit into the buffer are at its start, and the others are left.
-pub record GivesOf (left : List ℕ) (new : Tape) (space : ℕ) (told : PlainReply) (out : List ℕ) : Type 0 where
-  pub tells : told ≡ piece_reply (piece_of space left) (length (drop (piece_of space left) left))
+pub record GivesOf (left : List ℕ) (new : Tape) (space : ℕ) (rc : PlainReply) (out : List ℕ) : Type 0 where
+  pub reply_is : rc ≡ piece_reply (piece_of space left) (length (drop (piece_of space left) left))
   pub gives : take (piece_of space left) out ≡ take (piece_of space left) left
   pub others : new ≡ Giving (drop (piece_of space left) left)
 
@@ -85,9 +85,9 @@ HasLeft (Taking recorder) left = (history : List (List ℕ)) × StandsFor record
 HasLeft (Giving rest) left = left ≡ rest
 
 abbrev pub GivesPiece : Tape → Tape → ℕ → PlainReply → List ℕ → Type 0
-GivesPiece old new space told out = (left : List ℕ) → HasLeft old left → GivesOf left new space told out
+GivesPiece old new space rc out = (left : List ℕ) → HasLeft old left → GivesOf left new space rc out
 
 abbrev pub Gives : Option Tape → Option Tape → ℕ → PlainReply → List ℕ → Type 0
-Gives None new space told out = (told ≡ bare_of code.NoRecorder) × (new ≡ None)
-Gives (Some old) None space told out = ⊥
-Gives (Some old) (Some new) space told out = GivesPiece old new space told out
+Gives None new space rc out = (rc ≡ bare_of code.NoRecorder) × (new ≡ None)
+Gives (Some old) None space rc out = ⊥
+Gives (Some old) (Some new) space rc out = GivesPiece old new space rc out

@@ -9,7 +9,7 @@ use Rattle.rtx_stream.specs.declared.fault.RtxFault.{RtxFault}
 use Rattle.rtx_stream.specs.declared.fault.RtxFault.TheVariants as rtx
 use Rattle.room_c.specs.declared.code.Code.TheVariants as code
 use Rattle.room_c.specs.declared.plain_reply.PlainReply.{PlainReply}
-use Rattle.room_c.specs.Telling.{bare_of, one_of, plain_refusal}
+use Rattle.room_c.specs.Numbers.{bare_of, one_of, plain_refusal}
 
 -- the buffer is too small, the packet has more than `most` bytes, or the payload type has more than seven bits; otherwise `other`
 abbrev pub refused_first : (space most : ℕ) → List ℕ → ℕ → Option PlainReply → Option PlainReply

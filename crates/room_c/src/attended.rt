@@ -3,7 +3,7 @@ use crate::code::Code;
 use crate::plain_reply::PlainReply;
 use room_sessions::EitherSession;
 use session_steps::{Output, Session};
-use sfu_base::{PacketBuf, Scratch, SeqList};
+use sfu_base::Scratch;
 
 /// A session with the buffers for its datagrams.
 #[derive(Drop)]
@@ -23,15 +23,12 @@ impl Attended {
     {
         Attended {
             session,
-            scratch: Scratch {
-                packet: PacketBuf::new(),
-                names: SeqList::new(),
-            },
+            scratch: Scratch::new(),
         }
     }
 
-    /// Begins a turn of the session. If `came` is true, `bytes` is the received datagram. If `came` is false, no datagram was received. Returns `Busy` if the
-    /// session still has a call to make; nothing changes then.
+    /// Begins a turn of the session. If `came` is true, `bytes` is the received datagram. If `came` is false, no datagram was received. If the session still
+    /// has a call to make, returns `Busy` and changes nothing.
     pub fn hear(&mut self, came: bool, moment: u64, bytes: &[u8]) -> PlainReply
         requires { length bytes.now ≤ 2048 }
         ensures { HearsAs self.old self.new (datagram came bytes.now) moment result }

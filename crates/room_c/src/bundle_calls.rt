@@ -5,7 +5,7 @@ ghost use Rattle.simulcast.specs.Made.{just_made, just_renumbered};
 ghost use Rattle.room_c.specs.declared.code.Code.TheVariants.{BadLegs, NoSpace};
 ghost use Rattle.room_c.specs.Bundling.{ChoosesLegOf, DrawsFrom, IsNoCount, Makes, Pumps, RedrawsFrom};
 ghost use Rattle.room_c.specs.Serving.{GivesBytes};
-ghost use Rattle.room_c.specs.Telling.{bare_of, bytes_written};
+ghost use Rattle.room_c.specs.Numbers.{bare_of, bytes_written};
 
 use crate::answers::{PACKET_ROOM, give_packet};
 use crate::code::Code;
@@ -14,9 +14,10 @@ use crate::home::Home;
 use crate::plain_reply::PlainReply;
 use std::alloc::Global;
 
-/// Creates a bundle, as `Bundles::bundle` does. The legs are two or three subscribers of layered tracks with the header extension id `id`. The bundle's
-/// packets have this SSRC, and their sequence numbers start at `first`. Leg 1 is chosen. Returns `Done`. Refusals, after which nothing changes: `NumberUsed`,
-/// `TooMany`, `NoSubscriber`, `Bound`, `WrongKind`, `NoMemory`. `BadLegs`: there are fewer than two legs, or more than three; nothing changes.
+/// Creates a bundle, as `Bundles::bundle` does. The legs are two or three subscribers. Their tracks are layered and use the header extension id `id`. The
+/// bundle's packets have this SSRC, and their sequence numbers start at `first`. At first, leg 1 is the chosen leg. Returns `Done`. Refusals, which change
+/// nothing: `NumberUsed`, `TooMany`, `NoSubscriber`, `Bound`, `WrongKind`, `NoMemory`. `BadLegs`: there are fewer than two legs, or more than three; nothing
+/// changes.
 #[unsafe(no_mangle)]
 pub extern "C" fn zoftemar_bundle(
     alloc: Global,
@@ -34,17 +35,15 @@ pub extern "C" fn zoftemar_bundle(
     if legs.len() < 2 || legs.len() > 3 {
         return PlainReply::bare(Code::BadLegs);
     }
-    match room.take(alloc) {
-        None => PlainReply::bare(Code::NoRoom),
-        Some(mut home) => {
-            let answer = home.bundles.bundle(bundle, id, ssrc, first, legs);
-            room.put(home);
-            PlainReply::of_done(answer)
-        }
-    }
+    let Some(mut home) = room.take(alloc) else {
+        return PlainReply::bare(Code::NoRoom);
+    };
+    let answer = home.bundles.bundle(bundle, id, ssrc, first, legs);
+    room.put(home);
+    PlainReply::of_done(answer)
 }
 
-/// Creates a bundle, as `Bundles::bundle_renumbered` does. The bundle's frame numbers continue over a change of leg. The codes are those of
+/// Creates a bundle, as `Bundles::bundle_renumbered` does. When the bundle changes to another leg, its frame numbers continue. Returns the same codes as
 /// `zoftemar_bundle`.
 #[unsafe(no_mangle)]
 pub extern "C" fn zoftemar_bundle_renumbered(
@@ -63,20 +62,19 @@ pub extern "C" fn zoftemar_bundle_renumbered(
     if legs.len() < 2 || legs.len() > 3 {
         return PlainReply::bare(Code::BadLegs);
     }
-    match room.take(alloc) {
-        None => PlainReply::bare(Code::NoRoom),
-        Some(mut home) => {
-            let answer = home
-                .bundles
-                .bundle_renumbered(bundle, id, ssrc, first, legs);
-            room.put(home);
-            PlainReply::of_done(answer)
-        }
-    }
+    let Some(mut home) = room.take(alloc) else {
+        return PlainReply::bare(Code::NoRoom);
+    };
+    let answer = home
+        .bundles
+        .bundle_renumbered(bundle, id, ssrc, first, legs);
+    room.put(home);
+    PlainReply::of_done(answer)
 }
 
-/// Chooses a leg of a bundle, as `Bundles::choose` does. Legs are counted from 1. The bundle forwards the leg from the leg's next key frame on. If the leg
-/// isn't active, a key frame of the leg's track is requested. Returns `Done`. Refusals, after which nothing changes: `NoBundle`, `NoLeg`.
+/// Chooses a leg of a bundle, as `Bundles::choose` does. Legs are counted from 1. If the bundle already forwards this leg, it goes on doing so. Otherwise a key
+/// frame of the leg's track is requested, and the bundle forwards the leg from the leg's next key frame on. Returns `Done`. Refusals, which change nothing:
+/// `NoBundle`, `NoLeg`.
 #[unsafe(no_mangle)]
 pub extern "C" fn zoftemar_choose(
     alloc: Global,
@@ -86,44 +84,40 @@ pub extern "C" fn zoftemar_choose(
 ) -> PlainReply
     ensures { ChoosesLegOf bundle leg room.old.held.home room.new.held.home result }
 {
-    match room.take(alloc) {
-        None => PlainReply::bare(Code::NoRoom),
-        Some(mut home) => {
-            let Home {
-                bundles,
-                scratch,
-                inbox: _,
-            } = &mut *home;
-            let answer = bundles.choose(bundle, leg, scratch);
-            room.put(home);
-            PlainReply::of_done(answer)
-        }
-    }
+    let Some(mut home) = room.take(alloc) else {
+        return PlainReply::bare(Code::NoRoom);
+    };
+    let Home {
+        bundles,
+        scratch,
+        inbox: _,
+    } = &mut *home;
+    let answer = bundles.choose(bundle, leg, scratch);
+    room.put(home);
+    PlainReply::of_done(answer)
 }
 
-/// Takes the packets that are queued for a bundle's legs, as `Bundles::pump` does, and queues the packets that the bundle forwards. Returns `Pumped`.
-/// Refusal, after which nothing changes: `NoBundle`.
+/// Takes the packets that are queued for a bundle's legs, as `Bundles::pump` does. Queues those that the bundle forwards. Returns `Pumped`. Refusal, which
+/// changes nothing: `NoBundle`.
 #[unsafe(no_mangle)]
 pub extern "C" fn zoftemar_pump(alloc: Global, room: &mut Handle, bundle: u32) -> PlainReply
     ensures { Pumps bundle room.old.held.home room.new.held.home result }
 {
-    match room.take(alloc) {
-        None => PlainReply::bare(Code::NoRoom),
-        Some(mut home) => {
-            let Home {
-                bundles,
-                scratch,
-                inbox: _,
-            } = &mut *home;
-            let answer = bundles.pump(bundle, scratch);
-            room.put(home);
-            PlainReply::of_pumped(answer)
-        }
-    }
+    let Some(mut home) = room.take(alloc) else {
+        return PlainReply::bare(Code::NoRoom);
+    };
+    let Home {
+        bundles,
+        scratch,
+        inbox: _,
+    } = &mut *home;
+    let answer = bundles.pump(bundle, scratch);
+    room.put(home);
+    PlainReply::of_pumped(answer)
 }
 
-/// Takes the oldest queued packet of a bundle, as `Bundles::draw` does, and writes the packet to the start of `out`. Returns `Packet`. The sequence number is
-/// in the packet. Refusals: `NoBundle`, `Empty`. `NoSpace`: `out` has fewer than 2,048 bytes. After a refusal or `NoSpace`, nothing changes.
+/// Takes the oldest queued packet of a bundle, as `Bundles::draw` does, and writes the packet to the start of `out`. Returns `Packet`. The packet contains its
+/// sequence number. Refusals: `NoBundle`, `Empty`. `NoSpace`: `out` has fewer than 2,048 bytes. A refusal or `NoSpace` changes nothing.
 #[unsafe(no_mangle)]
 pub extern "C" fn zoftemar_draw(
     alloc: Global,
@@ -139,27 +133,25 @@ pub extern "C" fn zoftemar_draw(
     if out.len() < PACKET_ROOM {
         return PlainReply::bare(Code::NoSpace);
     }
-    match room.take(alloc) {
-        None => PlainReply::bare(Code::NoRoom),
-        Some(mut home) => {
-            let Home {
-                bundles,
-                scratch,
-                inbox: _,
-            } = &mut *home;
-            let told = match bundles.draw(bundle, &mut scratch.packet) {
-                Ok(_) => give_packet(&scratch.packet, out),
-                Err(why) => PlainReply::of_fault(why),
-            };
-            room.put(home);
-            told
-        }
-    }
+    let Some(mut home) = room.take(alloc) else {
+        return PlainReply::bare(Code::NoRoom);
+    };
+    let Home {
+        bundles,
+        scratch,
+        inbox: _,
+    } = &mut *home;
+    let rc = match bundles.draw(bundle, &mut scratch.packet) {
+        Ok(_) => give_packet(&scratch.packet, out),
+        Err(why) => PlainReply::of_fault(why),
+    };
+    room.put(home);
+    rc
 }
 
-/// Writes a packet that was drawn from a bundle before to the start of `out`, as `Bundles::redraw` does for a NACK (RFC 4585, section 6.2.1). `seq` is the
-/// packet's sequence number. Returns `Packet`. Refusals: `NoBundle`, `NotKept`. `NoSpace`: `out` has fewer than 2,048 bytes. After a refusal or `NoSpace`,
-/// nothing changes.
+/// Writes an already drawn packet of a bundle to the start of `out` again, as `Bundles::redraw` does. Use this call to answer a NACK (RFC 4585, section 6.2.1).
+/// `seq` is the packet's sequence number. Returns `Packet`. Refusals: `NoBundle`, `NotKept`. `NoSpace`: `out` has fewer than 2,048 bytes. A refusal or
+/// `NoSpace` changes nothing.
 #[unsafe(no_mangle)]
 pub extern "C" fn zoftemar_redraw(
     alloc: Global,
@@ -176,20 +168,18 @@ pub extern "C" fn zoftemar_redraw(
     if out.len() < PACKET_ROOM {
         return PlainReply::bare(Code::NoSpace);
     }
-    match room.take(alloc) {
-        None => PlainReply::bare(Code::NoRoom),
-        Some(mut home) => {
-            let Home {
-                bundles,
-                scratch,
-                inbox: _,
-            } = &mut *home;
-            let told = match bundles.redraw(bundle, seq, &mut scratch.packet) {
-                Ok(()) => give_packet(&scratch.packet, out),
-                Err(why) => PlainReply::of_fault(why),
-            };
-            room.put(home);
-            told
-        }
-    }
+    let Some(mut home) = room.take(alloc) else {
+        return PlainReply::bare(Code::NoRoom);
+    };
+    let Home {
+        bundles,
+        scratch,
+        inbox: _,
+    } = &mut *home;
+    let rc = match bundles.redraw(bundle, seq, &mut scratch.packet) {
+        Ok(()) => give_packet(&scratch.packet, out),
+        Err(why) => PlainReply::of_fault(why),
+    };
+    room.put(home);
+    rc
 }

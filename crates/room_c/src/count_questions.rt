@@ -2,7 +2,7 @@
 ghost use Rattle.std.specs.Prelude.{◌≡◌};
 ghost use Rattle.room_c.specs.Reading.{subscriber_counts_in, track_counts_in};
 ghost use Rattle.room_c.specs.Serving.{AsksSubscriberCounts, AsksTrackCounts};
-ghost use Rattle.room_c.specs.Telling.{subscriber_counts_reply, subscriber_counts_written, track_counts_reply, track_counts_written};
+ghost use Rattle.room_c.specs.Numbers.{subscriber_counts_reply, subscriber_counts_written, track_counts_reply, track_counts_written};
 
 use crate::code::Code;
 use crate::handle::Handle;
@@ -11,8 +11,8 @@ use crate::plain_reply::PlainReply;
 use room_core::{SubscriberCounts, TrackCounts};
 use sfu_base::Refusal;
 
-/// Writes the counts of a subscriber since its join to `out` (see `Room::subscriber_counts`). Returns `Counts`. After a refusal, `out` is unchanged. Refusal:
-/// `NoSubscriber`.
+/// Writes a subscriber's counts to `out` (see `Room::subscriber_counts`). Counting starts when the subscriber joins. Returns `Counts`. After a refusal, `out`
+/// is unchanged. Refusal: `NoSubscriber`.
 #[unsafe(no_mangle)]
 pub extern "C" fn zoftemar_counts_of_subscriber(
     room: &mut Handle,
@@ -25,7 +25,7 @@ pub extern "C" fn zoftemar_counts_of_subscriber(
     if !room.has_home() {
         return PlainReply::bare(Code::NoRoom);
     }
-    tell_subscriber(
+    reply_subscriber(
         room.held
             .home()
             .bundles
@@ -35,8 +35,8 @@ pub extern "C" fn zoftemar_counts_of_subscriber(
     )
 }
 
-/// Writes the counts of a track since its publish to `out` (see `Room::track_counts`). Returns `Counts`. After a refusal, `out` is unchanged. Refusal:
-/// `NoTrack`.
+/// Writes a track's counts to `out` (see `Room::track_counts`). Counting starts when the track is published. Returns `Counts`. After a refusal, `out` is
+/// unchanged. Refusal: `NoTrack`.
 #[unsafe(no_mangle)]
 pub extern "C" fn zoftemar_counts_of_track(
     room: &mut Handle,
@@ -49,15 +49,15 @@ pub extern "C" fn zoftemar_counts_of_track(
     if !room.has_home() {
         return PlainReply::bare(Code::NoRoom);
     }
-    tell_track(room.held.home().bundles.room().track_counts(track), out)
+    reply_track(room.held.home().bundles.room().track_counts(track), out)
 }
 
-#[tactic(auto, unfolding(crate::specs::Telling::subscriber_counts_reply, crate::specs::Telling::subscriber_counts_written))]
-fn tell_subscriber(
+#[tactic(auto, unfolding(crate::specs::Numbers::subscriber_counts_reply, crate::specs::Numbers::subscriber_counts_written))]
+fn reply_subscriber(
     answer: Result<SubscriberCounts, Refusal>,
     out: &mut PlainSubscriberCounts,
 ) -> PlainReply
-    ensures told { subscriber_counts_in result out.new ≡ answer }
+    ensures read_back { subscriber_counts_in result out.new ≡ answer }
     ensures exact { result ≡ subscriber_counts_reply answer }
     ensures written { out.new ≡ subscriber_counts_written answer out.old }
 {
@@ -70,9 +70,9 @@ fn tell_subscriber(
     }
 }
 
-#[tactic(auto, unfolding(crate::specs::Telling::track_counts_reply, crate::specs::Telling::track_counts_written))]
-fn tell_track(answer: Result<TrackCounts, Refusal>, out: &mut PlainTrackCounts) -> PlainReply
-    ensures told { track_counts_in result out.new ≡ answer }
+#[tactic(auto, unfolding(crate::specs::Numbers::track_counts_reply, crate::specs::Numbers::track_counts_written))]
+fn reply_track(answer: Result<TrackCounts, Refusal>, out: &mut PlainTrackCounts) -> PlainReply
+    ensures read_back { track_counts_in result out.new ≡ answer }
     ensures exact { result ≡ track_counts_reply answer }
     ensures written { out.new ≡ track_counts_written answer out.old }
 {

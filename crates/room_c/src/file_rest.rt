@@ -4,7 +4,7 @@ ghost use Rattle.std.specs.Prelude.{◌≡◌, drop, length, min, take};
 use sfu_base::Blob;
 use std::marker::Model;
 
-/// The remaining bytes of a file that is fetched in pieces. Contracts see the list of the remaining bytes.
+/// The remaining bytes of a file that is fetched in pieces. Contracts see this value as the list of the remaining bytes.
 #[derive(Drop)]
 pub struct FileRest {
     file: Blob,
@@ -22,7 +22,7 @@ impl Model for FileRest {
 }
 
 impl FileRest {
-    /// Returns all bytes of this file as remaining bytes.
+    /// Returns a value in which all bytes of this file remain.
     pub fn of(file: Blob) -> FileRest
         ensures { result ≡ file }
     {

@@ -12,7 +12,7 @@ use sfu_base::Call;
 use std::alloc::Global;
 use std::mem::replace;
 
-/// A handle that has a room or none. C stores the 16 bytes of the handle, which are all 0 at first. C may pass the handle from thread to thread.
+/// A handle that has one room or no room. C stores the handle's 16 bytes. At first, all of these bytes are 0. C may pass the handle from thread to thread.
 #[repr(C)]
 pub struct Handle {
     made: bool,
@@ -61,7 +61,7 @@ impl Handle {
         }
     }
 
-    /// Removes the room from the handle and returns it, or returns `None` if the handle has no room. Afterwards the handle has no room.
+    /// Removes the room from the handle, and returns the room. Returns `None` if the handle has no room. Afterwards the handle has no room.
     pub fn take(&mut self, alloc: Global) -> Option<Box<Home>>
         ensures taken { self.old.held.home ≡ option_map (λ home. home.value) result }
         ensures empty { self.new.held.home ≡ None }
@@ -69,31 +69,29 @@ impl Handle {
         replace(self, Handle::empty(alloc)).into_home()
     }
 
-    /// Puts this room into the handle. If the handle already had a room, drops the old one.
+    /// Puts this room into the handle. If the handle already has a room, drops the old room.
     pub fn put(&mut self, home: Box<Home>)
         ensures { self.new.held.home ≡ Some home.value }
     {
         drop(replace(self, Handle::of(home)).into_home());
     }
 
-    /// Serves one call from this seat on the room. Returns `NoRoom` if the handle has no room. Returns `Bound` if the call is a take or a leave of a bundle's
-    /// leg. In both cases nothing changes.
+    /// Serves one call on the room. `seat` identifies the caller. Returns `NoRoom` if the handle has no room. Returns `Bound` if the call is a `Take` or a
+    /// `Leave`, and its subscriber is a leg of a bundle. With either code nothing changes.
     pub fn serve(&mut self, alloc: Global, seat: u32, call: &Call) -> PlainReply
         ensures does { Does self.old.held.home self.new.held.home seat call.now result }
     {
-        match self.take(alloc) {
-            None => PlainReply::bare(Code::NoRoom),
-            Some(mut home) => {
-                let Home {
-                    bundles,
-                    scratch,
-                    inbox: _,
-                } = &mut *home;
-                let answer = bundles.call(seat, call, scratch);
-                let told = PlainReply::of_answer(answer, scratch);
-                self.put(home);
-                told
-            }
-        }
+        let Some(mut home) = self.take(alloc) else {
+            return PlainReply::bare(Code::NoRoom);
+        };
+        let Home {
+            bundles,
+            scratch,
+            inbox: _,
+        } = &mut *home;
+        let answer = bundles.call(seat, call, scratch);
+        let rc = PlainReply::of_answer(answer, scratch);
+        self.put(home);
+        rc
     }
 }

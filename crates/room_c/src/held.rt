@@ -9,7 +9,7 @@ use std::alloc::Global;
 use std::marker::Model;
 
 /// The pointer of a `Box<Home>`, or a pointer that owns nothing. A type that contains or names a `Box` can't be passed to C. So the pointer is `*mut u8`, and
-/// the ghost field `home` says what the pointer owns. The type is linear: a value that owns a room can only be converted to its box.
+/// the ghost field `home` says what the pointer owns. The type is linear: a value that owns a room can't be dropped, and must be converted back to its box.
 #[repr(C)]
 pub struct Held {
     at: *mut u8,
@@ -51,7 +51,7 @@ impl Held {
         }
     }
 
-    /// Returns a reference to the room in the box that this value owns. Reads only the pointer.
+    /// Returns a reference to the room in the box that this value owns. Reads the pointer, but doesn't read the room.
     pub fn home(&mut self) -> &Home
         requires { is_some self.old.home ≡ true }
         ensures* keeps { sem 𝓛 (KeepsRoom self.entry) }

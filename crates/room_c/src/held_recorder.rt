@@ -9,7 +9,7 @@ use std::alloc::Global;
 use std::marker::Model;
 
 /// The pointer of a `Box<Tape>`, or a pointer that owns nothing. A type that contains or names a `Box` can't be passed to C. So the pointer is `*mut u8`, and
-/// the ghost field `tape` says what the pointer owns. The type is linear: a value that owns a recorder can only be converted to its box.
+/// the ghost field `tape` says what the pointer owns. The type is linear: a value that owns a recorder can't be dropped, and must be converted back to its box.
 #[repr(C)]
 pub struct HeldRecorder {
     at: *mut u8,

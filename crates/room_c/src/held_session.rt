@@ -9,7 +9,8 @@ use std::alloc::Global;
 use std::marker::Model;
 
 /// The pointer of a `Box<Attended>`, or a pointer that owns nothing. A type that contains or names a `Box` can't be passed to C. So the pointer is `*mut u8`,
-/// and the ghost field `attended` says what the pointer owns. The type is linear: a value that owns a session can only be converted to its box.
+/// and the ghost field `attended` says what the pointer owns. The type is linear: a value that owns a session can't be dropped, and must be converted back to
+/// its box.
 #[repr(C)]
 pub struct HeldSession {
     at: *mut u8,

@@ -1,6 +1,6 @@
-//! The room's interface for callers in C. C stores one handle for each room, for each session of a publisher or a subscriber, and for each recorder. A room
-//! may have bundles. A session makes calls on a room. A recorder turns packets into a file. Each call is served or returns a code, whatever numbers C passes.
-//! The header is `libzoftemar/zoftemar.h`.
+//! The C interface of the room. C stores one handle for each room, for each session of a publisher or a subscriber, and for each recorder. A room may have
+//! bundles. A session makes calls on a room. A recorder turns packets into a file. Whatever numbers C passes, each call is either served or returns an error
+//! code. The header is `libzoftemar/zoftemar.h`.
 #![tactic(auto)]
 
 mod answers;

@@ -5,7 +5,7 @@ ghost use Rattle.std.specs.Box.Ownership.{box_owns};
 use std::alloc::Allocator;
 use std::marker::Model;
 
-/// The parts of a `Box`, as fields that contracts can see. The parts own what a box with this pointer owns.
+/// The parts of a `Box`, as fields that contracts can see. Together, the parts own everything that the box owns.
 pub struct Parts<T, A: Allocator> {
     pub ptr: *mut T,
     pub alloc: A,

@@ -3,7 +3,7 @@ ghost use Rattle.std.specs.Prelude.{◌≡◌, ◌<◌, ◌≤◌, Err, IfErr, O
 ghost use Rattle.sfu_base.specs.declared.call.Reply.TheVariants as reply;
 ghost use Rattle.simulcast.specs.Bundles.{IsBound};
 ghost use Rattle.room_c.specs.Reading.{answer_in, fault_in, refusal_in, reply_in};
-ghost use Rattle.room_c.specs.Telling.{answer_reply, bare_of, done_reply, flag_of, number_of_fault, one_of, plain_fault, plain_of, plain_refusal, plain_verdict, pumped_reply, two_of};
+ghost use Rattle.room_c.specs.Numbers.{answer_reply, bare_of, done_reply, flag_of, number_of_fault, one_of, plain_fault, plain_of, plain_refusal, plain_verdict, pumped_reply, two_of};
 
 use crate::code::Code;
 use sfu_base::{Refusal, Reply, RtpFault, Scratch, Verdict};
@@ -34,7 +34,7 @@ impl PlainReply {
     }
 
     /// Returns a reply with this code and this flag. Both numbers are 0.
-    pub fn telling(code: Code, has: bool) -> PlainReply
+    pub fn with_flag(code: Code, has: bool) -> PlainReply
         ensures { result ≡ flag_of code has }
     {
         PlainReply {
@@ -69,10 +69,10 @@ impl PlainReply {
         }
     }
 
-    /// Returns a reply as numbers. If the reply has bytes or sequence numbers in the scratch, `first` is their count.
-    #[tactic(auto, unfolding(crate::specs::Telling::plain_of))]
+    /// Returns a room's reply as numbers. If the reply has bytes or sequence numbers in `scratch`, `first` is their count.
+    #[tactic(auto, unfolding(crate::specs::Numbers::plain_of))]
     pub fn of(reply: &Reply, scratch: &Scratch) -> PlainReply
-        ensures told { reply_in result ≡ reply.now }
+        ensures read_back { reply_in result ≡ reply.now }
         ensures code { result.code < 49 }
         ensures exact { result ≡ plain_of scratch.now reply.now }
     {
@@ -80,17 +80,17 @@ impl PlainReply {
             Reply::Done => PlainReply::bare(Code::Done),
             Reply::Packet => PlainReply::with(Code::Packet, scratch.packet.bytes().len() as u64),
             Reply::Names => PlainReply::with(Code::Names, scratch.names.numbers().len() as u64),
-            Reply::Key { wanted } => PlainReply::telling(Code::Key, *wanted),
+            Reply::Key { wanted } => PlainReply::with_flag(Code::Key, *wanted),
             Reply::Cause(verdict) => of_verdict(*verdict),
             Reply::Refused(why) => PlainReply::of_refusal(*why),
         }
     }
 
-    /// Returns the reply to a call that no bundle forbids, as numbers.
+    /// Returns, as numbers, the reply to a call that no bundle forbids.
     #[inline(always)]
-    #[tactic(auto, unfolding(crate::specs::Telling::plain_of))]
+    #[tactic(auto, unfolding(crate::specs::Numbers::plain_of))]
     pub fn of_reply(reply: &Reply, scratch: &Scratch) -> PlainReply
-        ensures told { answer_in result ≡ Ok reply.now }
+        ensures read_back { answer_in result ≡ Ok reply.now }
         ensures exact { result ≡ answer_reply scratch.now (Ok reply.now) }
     {
         match reply {
@@ -100,10 +100,10 @@ impl PlainReply {
         }
     }
 
-    /// Returns the answer of a room with bundles, as numbers.
+    /// Returns, as numbers, the answer of a room with bundles.
     pub fn of_answer(answer: Result<Reply, BundleFault>, scratch: &Scratch) -> PlainReply
         requires { IfErr answer IsBound }
-        ensures told { answer_in result ≡ answer }
+        ensures read_back { answer_in result ≡ answer }
         ensures exact { result ≡ answer_reply scratch.now answer }
     {
         match answer {
@@ -112,7 +112,7 @@ impl PlainReply {
         }
     }
 
-    /// Returns the result of creating a bundle or choosing a leg, as numbers.
+    /// Returns, as numbers, the result of a call that creates a bundle or chooses a leg.
     pub fn of_done(answer: Result<(), BundleFault>) -> PlainReply
         ensures { result ≡ done_reply answer }
     {
@@ -122,7 +122,7 @@ impl PlainReply {
         }
     }
 
-    /// Returns the result of a pump, as numbers.
+    /// Returns, as numbers, the result of `Bundles::pump`.
     pub fn of_pumped(answer: Result<Pumped, BundleFault>) -> PlainReply
         ensures { result ≡ pumped_reply answer }
     {
@@ -136,9 +136,9 @@ impl PlainReply {
         }
     }
 
-    /// Returns the refusal of a room with bundles, as numbers.
+    /// Returns, as numbers, why a room with bundles refused a call.
     pub fn of_fault(why: BundleFault) -> PlainReply
-        ensures told { IsBound why → answer_in result ≡ Err why }
+        ensures read_back { IsBound why → answer_in result ≡ Err why }
         ensures code { 32 ≤ result.code }
         ensures exact { result ≡ plain_fault why }
     {
@@ -157,9 +157,9 @@ impl PlainReply {
         }
     }
 
-    /// Returns the refusal of a room, as numbers.
+    /// Returns, as numbers, why a room refused a call.
     pub fn of_refusal(why: Refusal) -> PlainReply
-        ensures told { reply_in result ≡ reply.Refused why }
+        ensures read_back { reply_in result ≡ reply.Refused why }
         ensures refusal { refusal_in result ≡ why }
         ensures code { 32 ≤ result.code }
         ensures below { result.code < 49 }
@@ -203,7 +203,7 @@ impl PlainReply {
 
 // Returns a verdict on a frame, as numbers.
 fn of_verdict(verdict: Verdict) -> PlainReply
-    ensures told { reply_in result ≡ reply.Cause verdict }
+    ensures read_back { reply_in result ≡ reply.Cause verdict }
     ensures code { result.code < 32 }
     ensures exact { result ≡ plain_verdict verdict }
 {
@@ -240,7 +240,7 @@ fn of_verdict(verdict: Verdict) -> PlainReply
 }
 
 fn fault_number(fault: RtpFault) -> u64
-    ensures told { fault_in result ≡ fault }
+    ensures read_back { fault_in result ≡ fault }
     ensures exact { result ≡ number_of_fault fault }
 {
     match fault {

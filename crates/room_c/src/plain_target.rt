@@ -1,7 +1,7 @@
 // A decode target in the form that C reads.
 ghost use Rattle.std.specs.Prelude.{◌≡◌};
 ghost use Rattle.room_c.specs.Reading.{layers_in};
-ghost use Rattle.room_c.specs.Telling.{plain_target};
+ghost use Rattle.room_c.specs.Numbers.{plain_target};
 
 use room_core::DecodeTarget;
 use sfu_base::Wish;

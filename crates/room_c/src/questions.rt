@@ -5,7 +5,7 @@ ghost use Rattle.std.specs.Prelude.{◌≡◌, ◌<◌};
 ghost use Rattle.room_c.specs.Codes.{code_number};
 ghost use Rattle.room_c.specs.Reading.{number_in, reached_in, target_in};
 ghost use Rattle.room_c.specs.Serving.{AsksDue, AsksNewest, AsksReached, AsksTarget};
-ghost use Rattle.room_c.specs.Telling.{number_reply, reached_reply, target_reply, target_written};
+ghost use Rattle.room_c.specs.Numbers.{number_reply, reached_reply, target_reply, target_written};
 
 use crate::code::Code;
 use crate::handle::Handle;
@@ -14,8 +14,8 @@ use crate::plain_target::PlainTarget;
 use room_core::DecodeTarget;
 use sfu_base::Refusal;
 
-/// If a decode target is sent to the subscriber, writes this decode target to `out` (see `Room::target_of`). Returns `Target`. `has` says whether there is
-/// such a decode target. If there is none, or after a refusal, `out` is unchanged. Refusal: `NoSubscriber`.
+/// Returns `Target`. `has` says whether the subscriber has a current decode target (see `Room::target_of`). If so, this decode target is written to `out`.
+/// Otherwise, and after a refusal, `out` is unchanged. Refusal: `NoSubscriber`.
 #[unsafe(no_mangle)]
 pub extern "C" fn zoftemar_target_of(
     room: &mut Handle,
@@ -28,11 +28,11 @@ pub extern "C" fn zoftemar_target_of(
     if !room.has_home() {
         return PlainReply::bare(Code::NoRoom);
     }
-    tell_target(room.held.home().bundles.room().target_of(subscriber), out)
+    reply_target(room.held.home().bundles.room().target_of(subscriber), out)
 }
 
-/// Returns `Reached`. `has` is the result of `Room::reaches_wish`: whether the best decode target that the subscriber's wish allows is sent to the
-/// subscriber. Refusal: `NoSubscriber`.
+/// Returns `Reached`. `has` is the result of `Room::reaches_wish`. It says whether the subscriber's current decode target is the best one that the
+/// subscriber's wish allows. Refusal: `NoSubscriber`.
 #[unsafe(no_mangle)]
 pub extern "C" fn zoftemar_reaches_wish(room: &mut Handle, subscriber: u32) -> PlainReply
     ensures asks { AsksReached room.old.held.home subscriber result }
@@ -41,11 +41,11 @@ pub extern "C" fn zoftemar_reaches_wish(room: &mut Handle, subscriber: u32) -> P
     if !room.has_home() {
         return PlainReply::bare(Code::NoRoom);
     }
-    tell_reached(room.held.home().bundles.room().reaches_wish(subscriber))
+    reply_reached(room.held.home().bundles.room().reaches_wish(subscriber))
 }
 
-/// Returns `Due`. `first` is the result of `Room::due`: the moment at which a tick of the track gives up a gap. If there is no such moment, `has` is false.
-/// Refusal: `NoTrack`.
+/// Returns `Due`. `first` is the result of `Room::due`: the earliest moment, in milliseconds, at which `Room::tick` gives up a gap of the track. If there
+/// is no such moment, `has` is false. Refusal: `NoTrack`.
 #[unsafe(no_mangle)]
 pub extern "C" fn zoftemar_due(room: &mut Handle, track: u32) -> PlainReply
     ensures asks { AsksDue room.old.held.home track result }
@@ -54,11 +54,11 @@ pub extern "C" fn zoftemar_due(room: &mut Handle, track: u32) -> PlainReply
     if !room.has_home() {
         return PlainReply::bare(Code::NoRoom);
     }
-    tell_number(Code::Due, room.held.home().bundles.room().due(track))
+    reply_number(Code::Due, room.held.home().bundles.room().due(track))
 }
 
-/// Returns `Newest`. `first` is the result of `Room::newest_frame`: the number of the track's newest complete frame. If there is no complete frame, `has` is
-/// false. Refusal: `NoTrack`.
+/// Returns `Newest`. `first` is the result of `Room::newest_frame`: the unwrapped frame number of the track's newest complete frame. If there is no
+/// complete frame, `has` is false. Refusal: `NoTrack`.
 #[unsafe(no_mangle)]
 pub extern "C" fn zoftemar_newest_frame(room: &mut Handle, track: u32) -> PlainReply
     ensures asks { AsksNewest room.old.held.home track result }
@@ -67,43 +67,43 @@ pub extern "C" fn zoftemar_newest_frame(room: &mut Handle, track: u32) -> PlainR
     if !room.has_home() {
         return PlainReply::bare(Code::NoRoom);
     }
-    tell_number(
+    reply_number(
         Code::Newest,
         room.held.home().bundles.room().newest_frame(track),
     )
 }
 
-#[tactic(auto, unfolding(crate::specs::Telling::target_reply, crate::specs::Telling::target_written))]
-fn tell_target(answer: Result<Option<DecodeTarget>, Refusal>, out: &mut PlainTarget) -> PlainReply
-    ensures told { target_in result out.new ≡ answer }
+#[tactic(auto, unfolding(crate::specs::Numbers::target_reply, crate::specs::Numbers::target_written))]
+fn reply_target(answer: Result<Option<DecodeTarget>, Refusal>, out: &mut PlainTarget) -> PlainReply
+    ensures read_back { target_in result out.new ≡ answer }
     ensures exact { result ≡ target_reply answer }
     ensures written { out.new ≡ target_written answer out.old }
 {
     match answer {
         Ok(Some(target)) => {
             *out = PlainTarget::of(&target);
-            PlainReply::telling(Code::Target, true)
+            PlainReply::with_flag(Code::Target, true)
         }
-        Ok(None) => PlainReply::telling(Code::Target, false),
+        Ok(None) => PlainReply::with_flag(Code::Target, false),
         Err(why) => PlainReply::of_refusal(why),
     }
 }
 
-#[tactic(auto, unfolding(crate::specs::Telling::reached_reply))]
-fn tell_reached(answer: Result<bool, Refusal>) -> PlainReply
-    ensures told { reached_in result ≡ answer }
+#[tactic(auto, unfolding(crate::specs::Numbers::reached_reply))]
+fn reply_reached(answer: Result<bool, Refusal>) -> PlainReply
+    ensures read_back { reached_in result ≡ answer }
     ensures exact { result ≡ reached_reply answer }
 {
     match answer {
-        Ok(reached) => PlainReply::telling(Code::Reached, reached),
+        Ok(reached) => PlainReply::with_flag(Code::Reached, reached),
         Err(why) => PlainReply::of_refusal(why),
     }
 }
 
-#[tactic(auto, unfolding(crate::specs::Telling::number_reply))]
-fn tell_number(code: Code, answer: Result<Option<u64>, Refusal>) -> PlainReply
+#[tactic(auto, unfolding(crate::specs::Numbers::number_reply))]
+fn reply_number(code: Code, answer: Result<Option<u64>, Refusal>) -> PlainReply
     requires { code_number code < 32 }
-    ensures told { number_in (code_number code) result ≡ answer }
+    ensures read_back { number_in (code_number code) result ≡ answer }
     ensures exact { result ≡ number_reply code answer }
 {
     match answer {

@@ -7,9 +7,9 @@ use crate::code::Code;
 use crate::handle::Handle;
 use crate::plain_reply::PlainReply;
 
-/// Writes the numbers of the track's subscribers that have queued packets to the start of `out`, as many as fit (see `Room::ready`). Each number is written
-/// once, and the order isn't specified. Returns `Ready`. `first` is how many numbers were written. If `first` is less than the length of `out`, no such
-/// subscriber is left out. `NoRoom`: the handle has no room.
+/// Lists the track's subscribers that have queued packets (see `Room::ready`). Their numbers are written to the start of `out`, as many as fit. Each number
+/// is written once, and the order isn't specified. Returns `Ready`. `first` is how many numbers were written. If `first` is less than the length of `out`,
+/// the list is complete. `NoRoom`: the handle has no room.
 #[unsafe(no_mangle)]
 pub extern "C" fn zoftemar_ready(room: &mut Handle, track: u32, out: &mut [u32]) -> PlainReply
     ensures asks { AsksReady room.old.held.home track (length out.old) result (take result.first out.new) }

@@ -3,7 +3,7 @@ ghost use Rattle.std.specs.Prelude.{◌≡◌, ◌<◌, ◌≤◌, None, drop, l
 ghost use Rattle.room_c.specs.declared.code.Code.TheVariants.{BadExtensionId, NoSpace, TooLong};
 ghost use Rattle.room_c.specs.Codes.{code_number};
 ghost use Rattle.room_c.specs.Taping.{Feeds, Gives, OpensRecorder, file_bytes_written};
-ghost use Rattle.room_c.specs.Telling.{bare_of};
+ghost use Rattle.room_c.specs.Numbers.{bare_of};
 
 use crate::answers::PACKET_ROOM;
 use crate::code::Code;
@@ -13,9 +13,9 @@ use crate::tape::Tape;
 use ivf_recorder::IvfRecorder;
 use std::alloc::Global;
 
-/// Opens a recorder behind a handle that has no recorder, as `IvfRecorder::new` does. Returns `Done`. The dependency descriptors of the recorded packets are
-/// in the header extension element `id` (RFC 8285). `HasRecorder`: the handle already has a recorder; nothing changes. `NoMemory`: the handle still has no
-/// recorder. `BadExtensionId`: `id` is 0; nothing changes.
+/// Opens a recorder, as `IvfRecorder::new` does, and puts it into a handle that has no recorder. Returns `Done`. Each recorded packet has its dependency
+/// descriptor in the header extension element with the id `id` (RFC 8285). `HasRecorder`: the handle already has a recorder; nothing changes. `NoMemory`:
+/// memory ran out, and the handle still has no recorder. `BadExtensionId`: `id` is 0; nothing changes.
 #[unsafe(no_mangle)]
 pub extern "C" fn zoftemar_recorder_open(
     alloc: Global,
@@ -38,9 +38,9 @@ pub extern "C" fn zoftemar_recorder_open(
 }
 
 /// Feeds the next packet to a recorder, as `IvfRecorder::feed` does. Returns `Done`. Faults of the packet: `Unread`, `OtherSource`, `OutOfSequence`,
-/// `NoStructure`, `NotWhole`, `MissingReference`, `NotObu`. Every later feed to this recorder returns the same fault, and the file has the frames before the
-/// fault. With any other code nothing changes. `TooLong`: the packet has more than 2,048 bytes. `NoRecorder`: the handle has no recorder. `Finished`: the
-/// recorder is finished. `NoMemory`.
+/// `NoStructure`, `NotWhole`, `MissingReference`, `NotObu`. After such a fault, the file has the frames before the fault. Until the recorder is finished,
+/// every later feed of at most 2,048 bytes returns the same fault. The following codes change nothing. `TooLong`: the packet has more than 2,048 bytes.
+/// `NoRecorder`: the handle has no recorder. `Finished`: the recorder is finished. `NoMemory`: memory ran out.
 #[unsafe(no_mangle)]
 pub extern "C" fn zoftemar_recorder_feed(
     alloc: Global,
@@ -56,16 +56,16 @@ pub extern "C" fn zoftemar_recorder_feed(
     match recorder.take(alloc) {
         None => PlainReply::bare(Code::NoRecorder),
         Some(mut tape) => {
-            let told = tape.feed(bytes);
+            let rc = tape.feed(bytes);
             recorder.put(tape);
-            told
+            rc
         }
     }
 }
 
-/// Finishes a recorder, and writes the next bytes of its file to the start of `out`, as many as fit into `out`. `FilePiece`: `first` bytes were written, and
-/// `second` bytes are left. `Done`: earlier calls wrote all bytes of the file. Allocates no memory. `NoSpace`: `out` has no bytes; nothing changes.
-/// `NoRecorder`: the handle has no recorder.
+/// Finishes a recorder, and writes the next bytes of its file to the start of `out`, as many as fit into `out`. `FilePiece`: `first` bytes were written,
+/// and `second` bytes are left. `Done`: earlier calls wrote all bytes of the file. This call allocates no memory. `NoSpace`: `out` is empty; nothing
+/// changes. `NoRecorder`: the handle has no recorder.
 #[unsafe(no_mangle)]
 pub extern "C" fn zoftemar_recorder_finish(
     alloc: Global,
@@ -82,14 +82,14 @@ pub extern "C" fn zoftemar_recorder_finish(
     match recorder.take(alloc) {
         None => PlainReply::bare(Code::NoRecorder),
         Some(mut tape) => {
-            let told = tape.finish(alloc, out);
+            let rc = tape.finish(alloc, out);
             recorder.put(tape);
-            told
+            rc
         }
     }
 }
 
-/// Closes a recorder, finished or not. Afterwards the handle has no recorder, and another recorder may be opened behind the handle.
+/// Closes a recorder, finished or not. Afterwards the handle has no recorder, and another recorder may be put into the handle.
 #[unsafe(no_mangle)]
 pub extern "C" fn zoftemar_recorder_close(alloc: Global, recorder: &mut RecorderHandle)
     ensures { recorder.new.held.tape ≡ None }

@@ -8,7 +8,8 @@ use crate::tape::Tape;
 use std::alloc::Global;
 use std::mem::replace;
 
-/// A handle that has a recorder or none. C stores the 16 bytes of the handle, which are all 0 at first. C may pass the handle from thread to thread.
+/// A handle that has one recorder or no recorder. The handle has 16 bytes, which C stores. At first, all of these bytes are 0. C may pass the handle from
+/// thread to thread.
 #[repr(C)]
 pub struct RecorderHandle {
     made: bool,
@@ -50,7 +51,7 @@ impl RecorderHandle {
         }
     }
 
-    /// Removes the recorder from the handle and returns it, or returns `None` if the handle has no recorder. Afterwards the handle has no recorder.
+    /// Removes the handle's recorder, and returns this recorder. Returns `None` if the handle had no recorder. Afterwards the handle has no recorder.
     pub fn take(&mut self, alloc: Global) -> Option<Box<Tape>>
         ensures taken { self.old.held.tape ≡ option_map (λ tape. tape.value) result }
         ensures empty { self.new.held.tape ≡ None }

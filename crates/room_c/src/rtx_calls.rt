@@ -2,7 +2,7 @@
 ghost use Rattle.std.specs.Prelude.{◌≡◌, IfSome, None, drop, length, take};
 ghost use Rattle.rtx_stream.specs.Retransmission.{IsOriginal, IsRetransmission};
 ghost use Rattle.room_c.specs.declared.code.Code.TheVariants.{Packet};
-ghost use Rattle.room_c.specs.Telling.{bytes_written, one_of};
+ghost use Rattle.room_c.specs.Numbers.{bytes_written, one_of};
 ghost use Rattle.room_c.specs.Wrapping.{unwrap_refusal, wrap_refusal};
 
 use crate::answers::{PACKET_ROOM, give_packet};
@@ -15,16 +15,16 @@ use sfu_base::{PacketBuf, Refusal};
 /// The maximum length of a packet that can be wrapped, in bytes.
 const MOST_WRAPPED: usize = 2046;
 
-/// The fault number of `Unreadable` for a retransmission without an original sequence number: the payload has fewer than two bytes.
+/// The value of `first` in an `Unreadable` reply if a retransmission packet has no original sequence number. Its payload then has fewer than two bytes.
 const NO_ORIGINAL: u64 = 5;
 
-/// Every payload type is below this number.
+/// The number of payload types: a payload type is 0 to 127.
 const PAYLOAD_TYPES: u8 = 128;
 
 /// Wraps a packet for a retransmission stream, as `wrap` of `rtx_stream` does. The wrapped packet has the sequence number `number` on this stream. Returns
-/// `Packet`, and writes the wrapped packet to the start of `out`. Otherwise writes nothing, and returns the first of the following codes that applies.
-/// `NoSpace`: `out` has fewer than 2,048 bytes. `TooLong`: the packet has more than 2,046 bytes. `BadStream`: the payload type is 128 or more. `Unreadable`:
-/// the packet isn't RTP.
+/// `Packet`, and writes the wrapped packet to the start of `out`. If the call fails, it writes nothing, and returns the first of the following codes that
+/// applies. `NoSpace`: `out` has fewer than 2,048 bytes. `TooLong`: the packet has more than 2,046 bytes. `BadStream`: `rtx_payload_type` is 128 or more.
+/// `Unreadable`: the packet isn't RTP.
 #[unsafe(no_mangle)]
 pub extern "C" fn zoftemar_wrap(
     bytes: &[u8],
@@ -33,8 +33,8 @@ pub extern "C" fn zoftemar_wrap(
     rtx_payload_type: u8,
     out: &mut [u8],
 ) -> PlainReply
-    ensures refused { IfSome (wrap_refusal (length out.old) bytes.now rtx_payload_type) (λ told. (result ≡ told) × (out.new ≡ out.old)) }
-    ensures tells { wrap_refusal (length out.old) bytes.now rtx_payload_type ≡ None → result ≡ one_of Packet result.first }
+    ensures refused { IfSome (wrap_refusal (length out.old) bytes.now rtx_payload_type) (λ rc. (result ≡ rc) × (out.new ≡ out.old)) }
+    ensures reply_is { wrap_refusal (length out.old) bytes.now rtx_payload_type ≡ None → result ≡ one_of Packet result.first }
     ensures wraps { wrap_refusal (length out.old) bytes.now rtx_payload_type ≡ None
         → IsRetransmission bytes.now number (record { ssrc = rtx_ssrc; payload_type = rtx_payload_type }) (take result.first out.new) }
     ensures rest { drop (bytes_written result) out.new ≡ drop (bytes_written result) out.old }
@@ -62,10 +62,10 @@ pub extern "C" fn zoftemar_wrap(
     }
 }
 
-/// Unwraps a retransmission packet, as `unwrap` of `rtx_stream` does. Returns `Packet`, and writes the original packet, with this SSRC and payload type, to
-/// the start of `out`. Otherwise writes nothing, and returns the first of the following codes that applies. `NoSpace`: `out` has fewer than 2,048 bytes.
-/// `TooLong`: `bytes` has more than 2,048 bytes. `BadStream`: the payload type is 128 or more. `Unreadable`: `bytes` isn't RTP, or has no original sequence
-/// number.
+/// Unwraps a retransmission packet, as `unwrap` of `rtx_stream` does. Returns `Packet`, and writes the original packet to the start of `out`. This packet
+/// has the SSRC `ssrc` and the payload type `payload_type`. If the call fails, it writes nothing, and returns the first of the following codes that
+/// applies. `NoSpace`: `out` has fewer than 2,048 bytes. `TooLong`: `bytes` has more than 2,048 bytes. `BadStream`: `payload_type` is 128 or more.
+/// `Unreadable`: `bytes` isn't RTP, or has no original sequence number.
 #[unsafe(no_mangle)]
 pub extern "C" fn zoftemar_unwrap(
     bytes: &[u8],
@@ -73,8 +73,8 @@ pub extern "C" fn zoftemar_unwrap(
     payload_type: u8,
     out: &mut [u8],
 ) -> PlainReply
-    ensures refused { IfSome (unwrap_refusal (length out.old) bytes.now payload_type) (λ told. (result ≡ told) × (out.new ≡ out.old)) }
-    ensures tells { unwrap_refusal (length out.old) bytes.now payload_type ≡ None → result ≡ one_of Packet result.first }
+    ensures refused { IfSome (unwrap_refusal (length out.old) bytes.now payload_type) (λ rc. (result ≡ rc) × (out.new ≡ out.old)) }
+    ensures reply_is { unwrap_refusal (length out.old) bytes.now payload_type ≡ None → result ≡ one_of Packet result.first }
     ensures unwraps { unwrap_refusal (length out.old) bytes.now payload_type ≡ None → IsOriginal bytes.now ssrc payload_type (take result.first out.new) }
     ensures rest { drop (bytes_written result) out.new ≡ drop (bytes_written result) out.old }
 {

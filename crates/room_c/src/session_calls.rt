@@ -3,7 +3,7 @@ ghost use Rattle.std.specs.Prelude.{◌≡◌, ◌<◌, ◌≤◌, None, Ok, Som
 ghost use Rattle.session_steps.specs.declared.session.Output.TheVariants as sends;
 ghost use Rattle.room_c.specs.declared.code.Code.TheVariants.{NoSpace, TooLong};
 ghost use Rattle.room_c.specs.Attending.{Hears, WorksBoth, WorksOn, output_reply};
-ghost use Rattle.room_c.specs.Telling.{bare_of, bytes_written};
+ghost use Rattle.room_c.specs.Numbers.{bare_of, bytes_written};
 
 use crate::answers::{PACKET_ROOM, give_packet};
 use crate::attended::Attended;
@@ -18,8 +18,9 @@ use sfu_base::PacketBuf;
 use simulcast::BundleFault;
 use std::alloc::Global;
 
-/// Begins a turn of a session with a datagram received at `moment`, in milliseconds, as `Session::received` does. Returns `Done`. With any other code nothing
-/// changes. `TooLong`: the datagram has more than 2,048 bytes. `NoSession`: the handle has no session. `Busy`: the session still has a call to make.
+/// Begins a turn of a session with a received datagram, as `Session::received` does. The datagram was received at `moment`, in milliseconds. Returns
+/// `Done`. The following codes change nothing. `TooLong`: the datagram has more than 2,048 bytes. `NoSession`: the handle has no session. `Busy`: the
+/// session still has a call to make.
 #[unsafe(no_mangle)]
 pub extern "C" fn zoftemar_session_received(
     alloc: Global,
@@ -36,15 +37,15 @@ pub extern "C" fn zoftemar_session_received(
     match session.take(alloc) {
         None => PlainReply::bare(Code::NoSession),
         Some(mut attended) => {
-            let told = attended.hear(true, moment, bytes);
+            let rc = attended.hear(true, moment, bytes);
             session.put(attended);
-            told
+            rc
         }
     }
 }
 
-/// Begins a turn of a session without a datagram, at `moment`, in milliseconds. Returns `Done`. With any other code nothing changes. `NoSession`: the handle
-/// has no session. `Busy`: the session still has a call to make.
+/// Begins a turn of a session without a datagram. The turn begins at `moment`, in milliseconds. Returns `Done`. The following codes change nothing.
+/// `NoSession`: the handle has no session. `Busy`: the session still has a call to make.
 #[unsafe(no_mangle)]
 pub extern "C" fn zoftemar_session_waited(
     alloc: Global,
@@ -56,17 +57,17 @@ pub extern "C" fn zoftemar_session_waited(
     match session.take(alloc) {
         None => PlainReply::bare(Code::NoSession),
         Some(mut attended) => {
-            let told = attended.hear(false, moment, &[]);
+            let rc = attended.hear(false, moment, &[]);
             session.put(attended);
-            told
+            rc
         }
     }
 }
 
-/// Makes a session's calls on a room, until the session has a datagram to send or no call is left. `Packet`: the datagram to send is at the start of `out`.
-/// `Done`: no call is left, and the session waits for the next datagram. `Bound`: the session's next call is a take from a leg of bundle `first`. This call
-/// hasn't been made, but the calls before it have. With any other code nothing changes. `NoSpace`: `out` has fewer than 2,048 bytes. `NoSession`: the handle
-/// has no session. `NoRoom`: the handle has no room.
+/// Makes a session's calls on a room. Stops when the session has a datagram to send, or when no call is left. `Packet`: the datagram to send is at the
+/// start of `out`. `Done`: no call is left, and the session waits for the next datagram. `Bound`: the session's next call would take a packet from a leg of
+/// bundle `first`. This next call wasn't made; the calls before it were made. The following codes change nothing. `NoSpace`: `out` has fewer than 2,048
+/// bytes. `NoSession`: the handle has no session. `NoRoom`: the handle has no room.
 #[unsafe(no_mangle)]
 pub extern "C" fn zoftemar_session_work(
     alloc: Global,
@@ -86,9 +87,9 @@ pub extern "C" fn zoftemar_session_work(
     match session.take(alloc) {
         None => PlainReply::bare(Code::NoSession),
         Some(mut attended) => {
-            let told = work_on(alloc, room, seat, &mut attended, out);
+            let rc = work_on(alloc, room, seat, &mut attended, out);
             session.put(attended);
-            told
+            rc
         }
     }
 }
@@ -124,7 +125,7 @@ fn give_output(
     out: &mut [u8],
 ) -> PlainReply
     requires { 2048 ≤ length out.old }
-    ensures tells { result ≡ output_reply output packet.now }
+    ensures reply_is { result ≡ output_reply output packet.now }
     ensures gives { output ≡ Ok sends.Packet → take result.first out.new ≡ packet.now }
     ensures rest { drop (bytes_written result) out.new ≡ drop (bytes_written result) out.old }
 {

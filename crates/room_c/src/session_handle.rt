@@ -8,7 +8,8 @@ use crate::parts::Parts;
 use std::alloc::Global;
 use std::mem::replace;
 
-/// A handle that has a session or none. C stores the 16 bytes of the handle, which are all 0 at first. C may pass the handle from thread to thread.
+/// A handle that has one session or no session. The handle has 16 bytes, which C stores. At first, all of these bytes are 0. C may pass the handle from
+/// thread to thread.
 #[repr(C)]
 pub struct SessionHandle {
     made: bool,
@@ -50,7 +51,7 @@ impl SessionHandle {
         }
     }
 
-    /// Removes the session from the handle and returns it, or returns `None` if the handle has no session. Afterwards the handle has no session.
+    /// Removes the handle's session, and returns this session. Returns `None` if the handle had no session. Afterwards the handle has no session.
     pub fn take(&mut self, alloc: Global) -> Option<Box<Attended>>
         ensures taken { self.old.held.attended ≡ option_map (λ attended. attended.value) result }
         ensures empty { self.new.held.attended ≡ None }

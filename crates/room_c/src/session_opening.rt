@@ -15,8 +15,9 @@ use rtx_stream::Rtx;
 use session_steps::{PublisherSession, SubscriberSession};
 use std::alloc::Global;
 
-/// Opens a session of a track's publisher behind a handle that has no session, as `PublisherSession::new` does. Returns `Done`. `ssrc` is the SSRC of the
-/// publisher's packets. `HasSession`: the handle already has a session; nothing changes. `NoMemory`: the handle still has no session.
+/// Opens a session of a track's publisher, as `PublisherSession::new` does, and puts it into a handle that has no session. Returns `Done`. `ssrc` is the
+/// SSRC of the publisher's packets. `HasSession`: the handle already has a session; nothing changes. `NoMemory`: memory ran out, and the handle still has
+/// no session.
 #[unsafe(no_mangle)]
 pub extern "C" fn zoftemar_open_publisher(
     alloc: Global,
@@ -33,8 +34,8 @@ pub extern "C" fn zoftemar_open_publisher(
     )
 }
 
-/// Opens a session of a subscriber. Each retransmission in this session has the same bytes as the packet that was sent first. `ssrc` is the SSRC of the media
-/// sent to the subscriber. The codes are those of `zoftemar_open_publisher`.
+/// Opens a session of a subscriber, and puts it into a handle that has no session. Each retransmission in this session has the same bytes as the original
+/// packet. `ssrc` is the SSRC of the media sent to the subscriber. The codes are those of `zoftemar_open_publisher`.
 #[unsafe(no_mangle)]
 pub extern "C" fn zoftemar_open_subscriber(
     alloc: Global,
@@ -51,8 +52,8 @@ pub extern "C" fn zoftemar_open_subscriber(
     )
 }
 
-/// Opens a session of a subscriber, as `zoftemar_open_subscriber` does, but sends retransmissions on a separate stream (RFC 4588). The sequence numbers of
-/// this stream start at 0. `BadStream`: the stream's payload type is 128 or more, or the stream's SSRC is `ssrc`; nothing changes.
+/// Opens a session of a subscriber, as `zoftemar_open_subscriber` does. But this session sends retransmissions on a separate stream (RFC 4588). The
+/// sequence numbers of this stream start at 0. `BadStream`: `rtx_payload_type` is 128 or more, or `rtx_ssrc` equals `ssrc`; nothing changes.
 #[unsafe(no_mangle)]
 pub extern "C" fn zoftemar_open_rtx_subscriber(
     alloc: Global,
@@ -83,7 +84,7 @@ pub extern "C" fn zoftemar_open_rtx_subscriber(
     )
 }
 
-/// Closes a session. Afterwards the handle has no session, and another session may be opened behind the handle.
+/// Closes a session. Afterwards the handle has no session, and another session may be put into the handle.
 #[unsafe(no_mangle)]
 pub extern "C" fn zoftemar_close_session(alloc: Global, session: &mut SessionHandle)
     ensures { session.new.held.attended ≡ None }

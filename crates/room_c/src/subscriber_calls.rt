@@ -4,19 +4,19 @@ ghost use Rattle.std.specs.Prelude.{◌≡◌, ◌<◌, ◌≤◌, drop, length}
 ghost use Rattle.sfu_base.specs.declared.call.Call.TheVariants as call;
 ghost use Rattle.room_c.specs.declared.code.Code.TheVariants.{NoSpace};
 ghost use Rattle.room_c.specs.Serving.{Does, GivesBytes};
-ghost use Rattle.room_c.specs.Telling.{bare_of, bytes_written};
+ghost use Rattle.room_c.specs.Numbers.{bare_of, bytes_written};
 
-use crate::answers::{PACKET_ROOM, give_answer, give_bytes};
+use crate::answers::{PACKET_ROOM, give_answer, give_taken};
 use crate::code::Code;
 use crate::handle::Handle;
 use crate::home::Home;
 use crate::plain_reply::PlainReply;
 use sfu_base::{Call, Wish};
-use simulcast::BundleFault;
 use std::alloc::Global;
 
-/// Makes a subscriber join a track, as `Room::join` does. The packets sent to the subscriber have this SSRC, and their sequence numbers start at `first`.
-/// `spatial` and `temporal` are the subscriber's wish. Refusals: `NoTrack`, `NumberUsed`, `TooMany`, `NoMemory`.
+/// Makes a subscriber join a track, as `Room::join` does. The packets sent to the subscriber have the SSRC `ssrc`, and their sequence numbers start at
+/// `first`. The subscriber's wish has the highest spatial layer `spatial` and the highest temporal layer `temporal`. Refusals: `NoTrack`, `NumberUsed`,
+/// `TooMany`, `NoMemory`.
 #[unsafe(no_mangle)]
 pub extern "C" fn zoftemar_join(
     alloc: Global,
@@ -59,7 +59,7 @@ pub extern "C" fn zoftemar_leave(
     room.serve(alloc, seat, &Call::Leave { subscriber })
 }
 
-/// Changes a subscriber's wish from the next frame on, as `Room::aim` does. Refusal: `NoSubscriber`.
+/// Changes a subscriber's wish, as `Room::aim` does. The new wish applies from the next frame on. Refusal: `NoSubscriber`.
 #[unsafe(no_mangle)]
 pub extern "C" fn zoftemar_aim(
     alloc: Global,
@@ -96,23 +96,21 @@ pub extern "C" fn zoftemar_take(
     let Some(mut home) = room.take(alloc) else {
         return PlainReply::bare(Code::NoRoom);
     };
-    if let Some(bundle) = home.bundles.owner(subscriber) {
-        room.put(home);
-        return PlainReply::of_fault(BundleFault::Bound { bundle });
-    }
     let Home {
         bundles,
         scratch,
         inbox: _,
     } = &mut *home;
-    let reply = bundles.take(seat, subscriber, scratch);
-    let told = give_bytes(&reply, scratch, out);
+    let mut bound = None;
+    let reply = bundles.take(seat, subscriber, scratch, &mut bound);
+    let rc = give_taken(bound, &reply, scratch, out);
     room.put(home);
-    told
+    rc
 }
 
-/// Writes a packet that was taken before to the start of `out`, as `Room::resend` does for a NACK (RFC 4585, section 6.2.1). `seq` is the packet's sequence
-/// number. Returns `Packet`. Refusals: `NoSubscriber`, `NotKept`. `NoSpace`: `out` has fewer than 2,048 bytes; nothing changes.
+/// Retransmits a packet that was already taken, as `Room::resend` does for a NACK (RFC 4585, section 6.2.1). `seq` is the packet's sequence number. Returns
+/// `Packet`, and writes the packet to the start of `out`. Refusals: `NoSubscriber`, `NotKept`. `NoSpace`: `out` has fewer than 2,048 bytes; nothing
+/// changes.
 #[unsafe(no_mangle)]
 pub extern "C" fn zoftemar_resend(
     alloc: Global,
@@ -130,20 +128,18 @@ pub extern "C" fn zoftemar_resend(
     if out.len() < PACKET_ROOM {
         return PlainReply::bare(Code::NoSpace);
     }
-    match room.take(alloc) {
-        None => PlainReply::bare(Code::NoRoom),
-        Some(mut home) => {
-            let Home {
-                bundles,
-                scratch,
-                inbox: _,
-            } = &mut *home;
-            let answer = bundles.call(seat, &Call::Resend { subscriber, seq }, scratch);
-            let told = give_answer(answer, scratch, out);
-            room.put(home);
-            told
-        }
-    }
+    let Some(mut home) = room.take(alloc) else {
+        return PlainReply::bare(Code::NoRoom);
+    };
+    let Home {
+        bundles,
+        scratch,
+        inbox: _,
+    } = &mut *home;
+    let answer = bundles.call(seat, &Call::Resend { subscriber, seq }, scratch);
+    let rc = give_answer(answer, scratch, out);
+    room.put(home);
+    rc
 }
 
 /// Requests a key frame, as `Room::plead` does for a picture loss indication (RFC 4585, section 6.3.1). Refusals: `NoSubscriber`, `NoTrack`,
@@ -160,7 +156,7 @@ pub extern "C" fn zoftemar_plead(
     room.serve(alloc, seat, &Call::Plead { subscriber })
 }
 
-/// Returns the reason why a frame was or wasn't forwarded to a subscriber, as `Room::why` does. The reason is a code from 16 to 23. `number` is the unwrapped
+/// Returns why a frame was or wasn't forwarded to a subscriber, as `Room::why` does. The reason is a code, 16 to 23. `number` is the frame's unwrapped
 /// frame number. Refusals: `NoSubscriber`, `Ahead`, `TooOld`.
 #[unsafe(no_mangle)]
 pub extern "C" fn zoftemar_why(

@@ -8,7 +8,7 @@ use sfu_base::Blob;
 use std::alloc::Global;
 use std::mem::replace;
 
-/// A recorder or, once the recorder is finished, the remaining bytes of its file.
+/// A recorder that takes packets, or the remaining bytes of a finished recorder's file.
 #[derive(Drop)]
 pub enum Tape {
     /// The recorder takes packets.
@@ -21,7 +21,7 @@ impl Tape {
     ghost use Rattle.std.specs.Prelude.{◌≡◌, ◌≤◌, ◌<◌, ℕ, List, drop, length};
     ghost use Rattle.room_c.specs.Taping.{FeedsTape, GivesPiece, HasLeft, file_bytes_written};
 
-    /// Feeds a packet to the recorder. Returns `Finished`, and changes nothing, if the recorder is finished.
+    /// Feeds a packet to the recorder. If the recorder is finished, returns `Finished` and changes nothing.
     pub fn feed(&mut self, bytes: &[u8]) -> PlainReply
         requires { length bytes.now ≤ 2048 }
         ensures { FeedsTape self.old self.new bytes.now result }
@@ -42,7 +42,7 @@ impl Tape {
         }
     }
 
-    /// Finishes the recorder, if it isn't finished yet, and moves the next bytes of its file to the start of `out`.
+    /// Finishes the recorder, unless it's finished already. Then moves the next bytes of the recorder's file to the start of `out`.
     pub fn finish(&mut self, alloc: Global, out: &mut [u8]) -> PlainReply
         requires { 0 < length out.old }
         ensures gives { GivesPiece self.old self.new (length out.old) result out.new }

@@ -5,7 +5,7 @@ ghost use Rattle.sfu_base.specs.declared.call.Call.TheVariants as call;
 ghost use Rattle.sfu_base.specs.declared.call.Kind.TheVariants.{Layered, Plain};
 ghost use Rattle.room_c.specs.declared.code.Code.TheVariants.{NoSpace, TooLong};
 ghost use Rattle.room_c.specs.Serving.{Does, GivesNumbers};
-ghost use Rattle.room_c.specs.Telling.{bare_of, numbers_written};
+ghost use Rattle.room_c.specs.Numbers.{bare_of, numbers_written};
 
 use crate::answers::{NAMES_ROOM, PACKET_ROOM, give_numbers};
 use crate::code::Code;
@@ -41,7 +41,7 @@ pub extern "C" fn zoftemar_publish_plain(
     )
 }
 
-/// Publishes a layered track, as `Room::publish` does. The track's dependency descriptors are in the header extension element with this id (RFC 8285).
+/// Publishes a layered track, as `Room::publish` does. The track's dependency descriptors are in the header extension element with the id `id` (RFC 8285).
 /// Refusals: `NumberUsed`, `TooMany`, `BadExtensionId`, `NoMemory`.
 #[unsafe(no_mangle)]
 pub extern "C" fn zoftemar_publish_layered(
@@ -81,7 +81,7 @@ pub extern "C" fn zoftemar_unpublish(
     room.serve(alloc, seat, &Call::Unpublish { track })
 }
 
-/// Adds a packet that arrives at `moment`, in milliseconds, to a track, as `Room::packet` does. Refusals: `NoTrack`, `TooBig`, `Unreadable`,
+/// Adds a packet to a track, as `Room::packet` does. The packet arrives at `moment`, in milliseconds. Refusals: `NoTrack`, `TooBig`, `Unreadable`,
 /// `WrongSsrc`, `Spent`, `Late`, `Repeat`. `TooLong`: the packet has more than 2,048 bytes; nothing changes.
 #[unsafe(no_mangle)]
 #[tactic(auto, using(crate::proofs::Silently::whole_of))]
@@ -109,12 +109,12 @@ pub extern "C" fn zoftemar_packet(
     } = &mut *home;
     inbox.fill(bytes);
     let reply = bundles.packet(seat, track, moment, inbox);
-    let told = PlainReply::of_reply(&reply, scratch);
+    let rc = PlainReply::of_reply(&reply, scratch);
     room.put(home);
-    told
+    rc
 }
 
-/// Advances a track's time to `moment`, in milliseconds, as `Room::tick` does. Refusal: `NoTrack`.
+/// Advances a track's time, as `Room::tick` does. The new time is `moment`, in milliseconds. Refusal: `NoTrack`.
 #[unsafe(no_mangle)]
 #[tactic(auto, using(crate::proofs::Silently::whole_of))]
 pub extern "C" fn zoftemar_tick(
@@ -135,13 +135,13 @@ pub extern "C" fn zoftemar_tick(
         inbox: _,
     } = &mut *home;
     let reply = bundles.tick(seat, track, moment);
-    let told = PlainReply::of_reply(&reply, scratch);
+    let rc = PlainReply::of_reply(&reply, scratch);
     room.put(home);
-    told
+    rc
 }
 
-/// Writes the missing sequence numbers, for which a track waits, to the start of `out`, as `Room::missing` does. Returns `Names`. Refusal: `NoTrack`.
-/// `NoSpace`: `out` has fewer than 1,024 items; nothing changes.
+/// Lists the missing sequence numbers for which a track waits, as `Room::missing` does. Returns `Names`, and writes these numbers to the start of `out`.
+/// Refusal: `NoTrack`. `NoSpace`: `out` has fewer than 1,024 items; nothing changes.
 #[unsafe(no_mangle)]
 pub extern "C" fn zoftemar_missing(
     alloc: Global,
@@ -158,23 +158,22 @@ pub extern "C" fn zoftemar_missing(
     if out.len() < NAMES_ROOM {
         return PlainReply::bare(Code::NoSpace);
     }
-    match room.take(alloc) {
-        None => PlainReply::bare(Code::NoRoom),
-        Some(mut home) => {
-            let Home {
-                bundles,
-                scratch,
-                inbox: _,
-            } = &mut *home;
-            let answer = bundles.call(seat, &Call::Missing { track }, scratch);
-            let told = give_numbers(answer, scratch, out);
-            room.put(home);
-            told
-        }
-    }
+    let Some(mut home) = room.take(alloc) else {
+        return PlainReply::bare(Code::NoRoom);
+    };
+    let Home {
+        bundles,
+        scratch,
+        inbox: _,
+    } = &mut *home;
+    let answer = bundles.call(seat, &Call::Missing { track }, scratch);
+    let rc = give_numbers(answer, scratch, out);
+    room.put(home);
+    rc
 }
 
-/// Returns `Key`. `has` is the result of `Room::key_wanted`: whether a key frame should be requested from the track's publisher. Refusal: `NoTrack`.
+/// Returns `Key`. `has` is the result of `Room::key_wanted`. It says whether a key frame should be requested from the track's publisher. Refusal:
+/// `NoTrack`.
 #[unsafe(no_mangle)]
 pub extern "C" fn zoftemar_key_wanted(
     alloc: Global,

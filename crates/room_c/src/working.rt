@@ -7,9 +7,9 @@ use session_steps::{Output, Session};
 use sfu_base::Scratch;
 use simulcast::{BundleFault, Bundles};
 
-/// Serves the session's calls on the room, all from this seat, and passes each reply to the session. Stops when the session has a datagram to send, or has no
-/// call left. `Packet`: the datagram to send is in `scratch.packet`. `Nothing`: no call is left, and the session waits for the next datagram. `Bound`: a
-/// bundle forbids the session's next call. This call hasn't been made, but the calls before it have.
+/// Makes the session's calls on the room, all from the seat `seat`, and passes each reply to the session. Stops when the session has a datagram to send, or
+/// has no call left. `Packet`: the datagram to send is in `scratch.packet`. `Nothing`: no call is left, and the session waits for the next datagram.
+/// `Bound`: a bundle forbids the session's next call. That call wasn't made; the calls before it were made.
 pub fn work<S: Session>(
     bundles: &mut Bundles<KeepNone>,
     seat: u32,

@@ -22,7 +22,7 @@ use Rattle.room_core.specs.Live.{Published, published}
 use Rattle.room_core.specs.Passing.{Both}
 use Rattle.room_core.specs.Stepping.{kind_by}
 use Rattle.room_core.specs.TrackHistory.{events_of}
-use Rattle.room_core.specs.TrackQuestions.{told_of_track}
+use Rattle.room_core.specs.TrackQuestions.{ok_of_track}
 use Rattle.room_core.proofs.Stepping.{format_is}
 
 -- the counts of a layered track, by the format with which its packets are read
@@ -44,20 +44,20 @@ counts_by_kind (Some l) kind worked pieces items is all are =
     ap (counts_in worked) (sym (format_is l.id))
     ∙ ap (λ (k : Kind). counts_of k worked (items_of worked)) is ∙ ap₂ (λ (ps : List Piece) (xs : List Item). counts_of kind ps xs) all are
 
-pub counts_told : (content : Content) (track : ℕ) (known : LiveTrack) (pipeline : Seen) (result : TrackCounts) (past : List Call)
+pub counts_reported : (content : Content) (track : ℕ) (known : LiveTrack) (pipeline : Seen) (result : TrackCounts) (past : List Call)
     → get nat_eq content.tracks track ≡ Some known → pipeline ≡ known.pipeline.value → known.pipeline.value.window.waiting ≡ []
     → ((events : List Event) (worked : List Piece) → StandsFor pipeline events worked → result ≡ counts_after (option_map id_of pipeline.layers) worked)
-    → IsAfter content past → ◌≡◌ {A = Result TrackCounts Refusal} (Ok result) (told_of_track (published track past) (track_counts_at track past))
-counts_told content track known pipeline result past there same idle told after =
+    → IsAfter content past → ◌≡◌ {A = Result TrackCounts Refusal} (Ok result) (ok_of_track (published track past) (track_counts_at track past))
+counts_reported content track known pipeline result past there same idle reported after =
     go (published track past) (subst (λ (o : Option LiveTrack). Both (IsTrackAfter past track) o (published track past)) there (after.tracks track))
   where
     go : (o : Option Published) → Both (IsTrackAfter past track) (Some known) o
-        → ◌≡◌ {A = Result TrackCounts Refusal} (Ok result) (told_of_track o (track_counts_at track past))
+        → ◌≡◌ {A = Result TrackCounts Refusal} (Ok result) (ok_of_track o (track_counts_at track past))
     go None h = absurd h
     go (Some p) h =
         let pieces : h.at.worked ≡ pieces_at track past =
         sym (append-nil h.at.worked) ∙ ap (λ (xs : List Piece). h.at.worked ++ xs) (sym idle) ∙ h.at.stands.pieces
         ∙ ap (λ (hold : ℕ). order_items hold (events_of track past)) h.hold_is in
         ap (λ (k : TrackCounts). let answer : Result TrackCounts Refusal = Ok k in answer)
-        (subst (λ (t : Seen). (events : List Event) (worked : List Piece) → StandsFor t events worked → result ≡ counts_after (option_map id_of t.layers) worked) same told _ h.at.worked h.at.stands
+        (subst (λ (t : Seen). (events : List Event) (worked : List Piece) → StandsFor t events worked → result ≡ counts_after (option_map id_of t.layers) worked) same reported _ h.at.worked h.at.stands
         ∙ counts_by_kind known.pipeline.value.layers _ h.at.worked _ _ h.pipeline_kind pieces h.at.items_are)

@@ -37,7 +37,7 @@ use Rattle.room_core.specs.Sent.{opens, sent}
 use Rattle.target_selector.specs.Masks.{mask_for}
 use Rattle.target_selector.specs.Reaching.{targets_of}
 use Rattle.room_core.specs.declared.feed.Feed.{Feed}
-use Rattle.room_core.specs.Follows.{Follows, FollowsFrame, FollowsPacket, Happened, IsRingOf, PushesFrame, frame_by, pushed_all, tells_by}
+use Rattle.room_core.specs.Follows.{Follows, FollowsFrame, FollowsPacket, Happened, IsRingOf, PushesFrame, frame_by, pushed_all, carries_mask_by}
 use Rattle.room_core.specs.Counts.{and_left_out, with_frame}
 use Rattle.room_core.specs.declared.counts.FeedCounts.{FeedCounts}
 use Rattle.room_core.proofs.Counting.{frame_counted, left_out_counted, queued_counted}
@@ -161,15 +161,15 @@ passed_where : (s : Standing) (f : FrameMeaning) (packets : ℕ) → passes_at s
 passed_where s f packets h = verdict_from_passes (has_passed s f) (key_passed s f) s.wish f (target_at s f) s.queued packets h
 
 -- the results of the calls for the packets of a frame that passed
-pub record Queues (old new : Feed) (meaning : FrameMeaning) (track : Seen) (queued : ℕ) (is_top told : Bool) (mask : ℕ) : Type 0 where
-  pub pushes : PushesFrame old.ring new.ring (queued_by told track.layers mask track.packets) is_top
+pub record Queues (old new : Feed) (meaning : FrameMeaning) (track : Seen) (queued : ℕ) (is_top is_remasked : Bool) (mask : ℕ) : Type 0 where
+  pub pushes : PushesFrame old.ring new.ring (queued_by is_remasked track.layers mask track.packets) is_top
   pub top : (s : Standing) → StandsFor old.selector s → IsAboveAll meaning s → s.queued ≡ queued → is_top ≡ is_top_layer meaning (candidate_at s meaning)
-  pub tells : (s : Standing) → StandsFor old.selector s → IsAboveAll meaning s → s.queued ≡ queued → told ≡ (is_opening_at s meaning || tells_by track.layers track.packets)
-  pub mask_is : told ≡ true → (s : Standing) → StandsFor new.selector s → mask ≡ mask_for meaning (open_target s.target)
+  pub carries_mask : (s : Standing) → StandsFor old.selector s → IsAboveAll meaning s → s.queued ≡ queued → is_remasked ≡ (is_opening_at s meaning || carries_mask_by track.layers track.packets)
+  pub mask_is : is_remasked ≡ true → (s : Standing) → StandsFor new.selector s → mask ≡ mask_for meaning (open_target s.target)
 
-pub frame_passes : (old new : Feed) (meaning : FrameMeaning) (track : Seen) (count queued : ℕ) (verdict : Verdict) (is_top told : Bool) (mask : ℕ)
-    → Judges old new meaning track.packets count queued verdict → verdict ≡ Passed → Queues old new meaning track queued is_top told mask → FollowsFrame old new meaning track
-frame_passes old new meaning track count queued verdict is_top told mask j passed q kind to structure events is force one h =
+pub frame_passes : (old new : Feed) (meaning : FrameMeaning) (track : Seen) (count queued : ℕ) (verdict : Verdict) (is_top is_remasked : Bool) (mask : ℕ)
+    → Judges old new meaning track.packets count queued verdict → verdict ≡ Passed → Queues old new meaning track queued is_top is_remasked mask → FollowsFrame old new meaning track
+frame_passes old new meaning track count queued verdict is_top is_remasked mask j passed q kind to structure events is force one h =
     let s : Standing = standing to.wish events in
     let frame : Frame TemplateStructure = frame_by meaning structure track.packets in
     let n : ℕ = length (map packet_of track.packets) in
@@ -179,10 +179,10 @@ frame_passes old new meaning track count queued verdict is_top told mask j passe
     let sends : List Packet = sent kind frame target in
     let above : IsAboveAll meaning s = lies_above meaning to.wish events one in
     let waits : s.queued ≡ queued = queued_same kind old to events h ∙ sym j.queued_is in
-    let tells : told ≡ (opens meaning target || tells_by track.layers track.packets) =
-    q.tells s h.selector above waits ∙ ap (λ (b : Bool). b || tells_by track.layers track.packets) (opens_here to.wish events meaning one) in
+    let carries_mask : is_remasked ≡ (opens meaning target || carries_mask_by track.layers track.packets) =
+    q.carries_mask s h.selector above waits ∙ ap (λ (b : Bool). b || carries_mask_by track.layers track.packets) (opens_here to.wish events meaning one) in
     let now : new.ring ≡ pushed_all sends old.ring =
-    sends_frame kind old.ring new.ring meaning structure track is_top told mask target is force (q.top s h.selector above waits) tells
+    sends_frame kind old.ring new.ring meaning structure track is_top is_remasked mask target is force (q.top s h.selector above waits) carries_mask
     (λ so. q.mask_is so (after_frame s meaning n) at.stands ∙ ap (λ (t : CurrentTarget). mask_for meaning (open_target t)) (target_here s meaning n passes)) q.pushes in
     judges_follow kind old new meaning structure track.packets verdict to events j.kind_is j.newest_is j.counts_are at h
     (subst (λ (r : Ring). IsRingOf r to (takes_of events) (outgoing (sent kind) to (WholeFrame frame ∷ events))) (sym now)

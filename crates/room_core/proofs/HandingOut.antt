@@ -23,7 +23,7 @@ use Rattle.room_core.specs.Sent.{sent}
 use Rattle.room_core.specs.Counts.{and_taken}
 use Rattle.room_core.specs.declared.counts.FeedCounts.{FeedCounts}
 use Rattle.room_core.specs.declared.feed.Feed.{Feed}
-use Rattle.room_core.specs.Follows.{Follows, FollowsTake, Happened, IsRingOf, Resends, ResendsIt, TakesNext, Tells, sent_as}
+use Rattle.room_core.specs.Follows.{Follows, FollowsTake, Happened, IsRingOf, Resends, ResendsIt, TakesNext, IsCauseOf, sent_as}
 use Rattle.room_core.proofs.Counting.{take_counted}
 use Rattle.room_core.proofs.Feeding.{stands_queued}
 use Rattle.room_core.proofs.Rings.{ring_taken}
@@ -92,5 +92,5 @@ resend_follows feed n result before bytes t kind to events h =
 -- ---- causes
 
 pub why_follows : (feed : Feed) (n : ℕ) (result : Result Verdict Refusal)
-    → ((steps : List Step) → IsAfter feed.causes steps → AreFalling steps → result ≡ judged steps n) → Tells feed n result
+    → ((steps : List Step) → IsAfter feed.causes steps → AreFalling steps → result ≡ judged steps n) → IsCauseOf feed n result
 why_follows feed n result judges kind to events h track = judges (verdicts to.wish events) h.causes (keeps_causes to.wish events track).0

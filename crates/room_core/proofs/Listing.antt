@@ -142,9 +142,9 @@ there_of track n past p None h is = absurd (true≢false (sym is))
 there_of track n past None (Some j) h is = absurd h
 there_of track n past (Some s) (Some j) h is = (s, refl, ready_same track n past s j h ∙ is)
 
-pub ready_told : (content : Content) (past : List Call) (track limit : ℕ) (listed : List ℕ) → IsAfter content past → IsUnique nat_eq content.subscribers
+pub ready_reported : (content : Content) (past : List Call) (track limit : ℕ) (listed : List ℕ) → IsAfter content past → IsUnique nat_eq content.subscribers
     → listed ≡ take limit (ready_in track content.subscribers.entries) → AreReady track limit past listed
-ready_told content past track limit listed after unique is = record {
+ready_reported content past track limit listed after unique is = record {
   distinct = subst (λ (l : List ℕ). IsDistinct nat_eq l) (sym is)
       (distinct-take nat_eq_equiv limit r (IsDistinct-keys_filter nat_eq (λ (e : ℕ × LiveSubscriber). is_entry_ready track e.1) es unique));
   ready = λ n h.

@@ -19,7 +19,7 @@ use Rattle.room_core.specs.Formats.{format_of}
 use Rattle.room_core.specs.Live.{Published, published}
 use Rattle.room_core.specs.Passing.{Both}
 use Rattle.room_core.specs.Stepping.{kind_by}
-use Rattle.room_core.specs.TrackQuestions.{frames_of, newest_frame_at, told_of_track}
+use Rattle.room_core.specs.TrackQuestions.{frames_of, newest_frame_at, ok_of_track}
 use Rattle.room_core.proofs.Stepping.{format_is}
 
 newest_by : (o : Option Layers) (kind : Kind) (worked : List Piece) (items : List Item) → kind_by o ≡ kind → items_of worked ≡ items
@@ -30,17 +30,17 @@ newest_by (Some l) kind worked items is are =
     ∙ ap (λ (xs : List Item). option_map number_of (first_of (frames_after (format_of l.id) xs))) are
     ∙ ap (λ (k : Kind). option_map number_of (first_of (frames_of k items))) is
 
-pub newest_told : (content : Content) (track : ℕ) (known : LiveTrack) (pipeline : Seen) (result : Option ℕ) (past : List Call)
+pub newest_reported : (content : Content) (track : ℕ) (known : LiveTrack) (pipeline : Seen) (result : Option ℕ) (past : List Call)
     → get nat_eq content.tracks track ≡ Some known → pipeline ≡ known.pipeline.value
     → ((events : List Event) (worked : List Piece) → StandsFor pipeline events worked → result ≡ newest_after (option_map id_of pipeline.layers) worked)
-    → IsAfter content past → ◌≡◌ {A = Result (Option ℕ) Refusal} (Ok result) (told_of_track (published track past) (newest_frame_at track past))
-newest_told content track known pipeline result past there same told after =
+    → IsAfter content past → ◌≡◌ {A = Result (Option ℕ) Refusal} (Ok result) (ok_of_track (published track past) (newest_frame_at track past))
+newest_reported content track known pipeline result past there same reported after =
     go (published track past) (subst (λ (o : Option LiveTrack). Both (IsTrackAfter past track) o (published track past)) there (after.tracks track))
   where
     go : (o : Option Published) → Both (IsTrackAfter past track) (Some known) o
-        → ◌≡◌ {A = Result (Option ℕ) Refusal} (Ok result) (told_of_track o (newest_frame_at track past))
+        → ◌≡◌ {A = Result (Option ℕ) Refusal} (Ok result) (ok_of_track o (newest_frame_at track past))
     go None h = absurd h
     go (Some p) h =
         ap (λ (o : Option ℕ). let answer : Result (Option ℕ) Refusal = Ok o in answer)
-        (subst (λ (t : Seen). (events : List Event) (worked : List Piece) → StandsFor t events worked → result ≡ newest_after (option_map id_of t.layers) worked) same told _ h.at.worked h.at.stands
+        (subst (λ (t : Seen). (events : List Event) (worked : List Piece) → StandsFor t events worked → result ≡ newest_after (option_map id_of t.layers) worked) same reported _ h.at.worked h.at.stands
         ∙ newest_by known.pipeline.value.layers _ h.at.worked _ h.pipeline_kind h.at.items_are)

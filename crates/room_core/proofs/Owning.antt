@@ -34,12 +34,12 @@ use Rattle.room_core.specs.Live.{Joined, Published, highest_subscriber, highest_
 use Rattle.room_core.specs.TrackHistory.{and_where, entries_of, events_of}
 use Rattle.room_core.specs.Sent.{sent}
 use Rattle.room_core.specs.Views.{events_for, plea, subscriber_by, timeline_as, verdicts_of}
-use Rattle.room_core.specs.Replies.{answer, of_subscriber, resend_answer, sent_or, take_answer, told}
+use Rattle.room_core.specs.Replies.{answer, of_subscriber, resend_answer, sent_or, take_answer, cause_answer}
 use Rattle.room_core.specs.History.{after as afterwards}
 use Rattle.room_core.specs.Counts.{raised, saturated}
 use Rattle.room_core.specs.Given.{resends_of}
 use Rattle.room_core.proofs.Counting.{raised_is}
-use Rattle.room_core.specs.Follows.{Follows, FollowsAim, FollowsTake, Happened, Resends, ResendsIt, TakesNext, Tells}
+use Rattle.room_core.specs.Follows.{Follows, FollowsAim, FollowsTake, Happened, Resends, ResendsIt, TakesNext, IsCauseOf}
 use Rattle.room_core.specs.Passing.{Both}
 use Rattle.room_core.specs.Content.{Does, IsAfter, IsSubscriberAfter, IsTrackAfter}
 use Rattle.room_core.proofs.Places.{IsWritten}
@@ -462,8 +462,8 @@ module _ (content : Content) (subscriber sequence : ℕ) (known : LiveSubscriber
       → Resends known.feed.value sequence (Ok tt) before bytes → (numbers : List ℕ) → Does content new (call.Resend subscriber sequence) reply.Packet bytes numbers
   resend_does new now writes track again feed tables highest highest' r numbers =
       let is : (past : List Call) → IsAfter content past → answer past (call.Resend subscriber sequence) ≡ Sent bytes = λ past h.
-      let (kind, to, events, told, resends) = resend_by (Ok tt) r past h in
-      told ∙ resent_ok (resent (sent kind) to events sequence) before bytes (oldest_number (sent kind) to events) (next_number (sent kind) to events) resends in
+      let (kind, to, events, cause_answer, resends) = resend_by (Ok tt) r past h in
+      cause_answer ∙ resent_ok (resent (sent kind) to events sequence) before bytes (oldest_number (sent kind) to events) (next_number (sent kind) to events) resends in
       record {
         answered = λ past h. sym (is past h);
         done = λ past h.
@@ -478,8 +478,8 @@ module _ (content : Content) (subscriber sequence : ℕ) (known : LiveSubscriber
       → Does content new (call.Resend subscriber sequence) (reply.Refused why) bytes numbers
   resend_refuses new now writes track again feed tables highest highest' why r numbers =
       let is : (past : List Call) → IsAfter content past → answer past (call.Resend subscriber sequence) ≡ Refused why = λ past h.
-      let (kind, to, events, told, resends) = resend_by (Err why) r past h in
-      told ∙ (resent_err (resent (sent kind) to events sequence) why before bytes (oldest_number (sent kind) to events) (next_number (sent kind) to events) resends).0 in
+      let (kind, to, events, cause_answer, resends) = resend_by (Err why) r past h in
+      cause_answer ∙ (resent_err (resent (sent kind) to events sequence) why before bytes (oldest_number (sent kind) to events) (next_number (sent kind) to events) resends).0 in
       record {
         answered = λ past h. sym (is past h);
         done = λ past h.
@@ -488,21 +488,21 @@ module _ (content : Content) (subscriber sequence : ℕ) (known : LiveSubscriber
       }
 
 module _ (content : Content) (subscriber number : ℕ) (known : LiveSubscriber) (found : Some known ≡ get nat_eq content.subscribers subscriber) where
-  why_by : (result : Result Verdict Refusal) → Tells known.feed.value number result → (past : List Call) → IsAfter content past → answer past (call.Why subscriber number) ≡ told result
-  why_by result tells past h =
+  why_by : (result : Result Verdict Refusal) → IsCauseOf known.feed.value number result → (past : List Call) → IsAfter content past → answer past (call.Why subscriber number) ≡ cause_answer result
+  why_by result is_cause past h =
       let there = found_subscriber content past subscriber known found h in
       let j : Joined = there.0 in
-      ap (λ (o : Option Joined). of_subscriber o (λ j. told (judged (verdicts_of subscriber j past) number))) there.1
-      ∙ ap told (sym (tells (kind_of j.track past) (subscriber_by j) (events_for subscriber j past) there.2.follows (one_track (kind_of j.track past) subscriber (entries_of j.track past))))
+      ap (λ (o : Option Joined). of_subscriber o (λ j. cause_answer (judged (verdicts_of subscriber j past) number))) there.1
+      ∙ ap cause_answer (sym (is_cause (kind_of j.track past) (subscriber_by j) (events_for subscriber j past) there.2.follows (one_track (kind_of j.track past) subscriber (entries_of j.track past))))
 
-  pub why_does : (verdict : Verdict) → Tells known.feed.value number (Ok verdict) → (bytes numbers : List ℕ) → Does content content (call.Why subscriber number) (reply.Cause verdict) bytes numbers
-  why_does verdict tells bytes numbers = record {
-    answered = λ past h. sym (why_by (Ok verdict) tells past h);
-    done = λ past h. subst (λ (a : Answer). IsAfter content (afterwards a (call.Why subscriber number) past)) (sym (why_by (Ok verdict) tells past h)) (why_after content past number subscriber h);
+  pub why_does : (verdict : Verdict) → IsCauseOf known.feed.value number (Ok verdict) → (bytes numbers : List ℕ) → Does content content (call.Why subscriber number) (reply.Cause verdict) bytes numbers
+  why_does verdict is_cause bytes numbers = record {
+    answered = λ past h. sym (why_by (Ok verdict) is_cause past h);
+    done = λ past h. subst (λ (a : Answer). IsAfter content (afterwards a (call.Why subscriber number) past)) (sym (why_by (Ok verdict) is_cause past h)) (why_after content past number subscriber h);
   }
 
-  pub why_refuses : (why : Refusal) → Tells known.feed.value number (Err why) → (bytes numbers : List ℕ) → Does content content (call.Why subscriber number) (reply.Refused why) bytes numbers
-  why_refuses why tells bytes numbers = record {
-    answered = λ past h. sym (why_by (Err why) tells past h);
-    done = λ past h. subst (λ (a : Answer). IsAfter content (afterwards a (call.Why subscriber number) past)) (sym (why_by (Err why) tells past h)) h;
+  pub why_refuses : (why : Refusal) → IsCauseOf known.feed.value number (Err why) → (bytes numbers : List ℕ) → Does content content (call.Why subscriber number) (reply.Refused why) bytes numbers
+  why_refuses why is_cause bytes numbers = record {
+    answered = λ past h. sym (why_by (Err why) is_cause past h);
+    done = λ past h. subst (λ (a : Answer). IsAfter content (afterwards a (call.Why subscriber number) past)) (sym (why_by (Err why) is_cause past h)) h;
   }

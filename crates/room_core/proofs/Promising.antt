@@ -3,7 +3,7 @@ use Rattle.std.proofs.Common.{◌≡◌, ◌<◌, ◌^◌, ℕ, Bool, true, fals
 use Rattle.std.specs.List.{AllByRecursion}
 use Rattle.std.proofs.lemmas.List.{map-append, take-append-drop}
 use Rattle.std.specs.Prelude.{◌↔◌}
-use Rattle.sfu_base.specs.Answer.{Answer, Refused, Sent, Told}
+use Rattle.sfu_base.specs.Answer.{Answer, Refused, Sent, CauseIs}
 use Rattle.sfu_base.specs.declared.call.Call.{Call}
 use Rattle.sfu_base.specs.declared.call.Call.TheVariants as call
 use Rattle.sfu_base.specs.declared.call.Kind.{Kind}
@@ -22,7 +22,7 @@ use Rattle.forwarding_model.specs.frames.TrackFrames.{IsOneTrack}
 use Rattle.forwarding_laws.proofs.CauseWords.{frames_have_their_verdicts}
 use Rattle.forwarding_laws.proofs.Claimed.{verdicts_say_what_is_so}
 use Rattle.forwarding_laws.proofs.Outgoings.{numbered-consecutive}
-use Rattle.forwarding_laws.proofs.Paths.{path_tells}
+use Rattle.forwarding_laws.proofs.Paths.{path_has_causes}
 use Rattle.forwarding_laws.proofs.Restarting.{restart_later, restart_there}
 use Rattle.forwarding_laws.proofs.Takings.{takes_fit}
 use Rattle.forwarding_laws.proofs.Timelines.{outgoing_never_complains, timeline_track, withheld_path_in_history}
@@ -39,11 +39,11 @@ use Rattle.room_core.specs.Views.{events_for, subscriber_by, timeline_as, verdic
 use Rattle.room_core.specs.Given.{given_to}
 use Rattle.room_core.specs.Headline.{Headline, IsNumbered, PleasesReceivers, RestartsAfterBreaks, ShowsCauses}
 use Rattle.room_core.specs.History.{Entry as Served, accepted}
-use Rattle.room_core.specs.Replies.{answer, of_subscriber, resend_answer, sent_or, take_answer, told}
+use Rattle.room_core.specs.Replies.{answer, of_subscriber, resend_answer, sent_or, take_answer, cause_answer}
 use Rattle.room_core.specs.SentBytes.{going_out, outgoing_bytes, taken_bytes}
 use Rattle.room_core.specs.WellFormed.{AreWellFormed}
 use Rattle.room_core.proofs.CameIn.{CameIn, entries_came, timeline_came}
-use Rattle.room_core.proofs.Asking.{asked_by, next_of, none_of, told_by}
+use Rattle.room_core.proofs.Asking.{asked_by, next_of, none_of, reported_by}
 use Rattle.room_core.proofs.Giving.{AreAccepted, accepted_are, finds_all, given_is}
 use Rattle.room_core.proofs.Resending.{resent_is}
 use Rattle.room_core.proofs.Senders.{sent_keeps_whole}
@@ -143,11 +143,11 @@ causes past id n j is kind = record {
       ∙ frames_have_their_verdicts j.wish since before frame (subst (λ (l : List Happened). IsOneTrack (meanings_of l)) e track)));
   roots = subst (λ (k : Kind). (m : ℕ) → IsWithheld j.wish (timeline_as k n entries) m → IsPath (path (cause j.wish (timeline_as k n entries)) m)) (sym kind)
       (λ m withheld. withheld_path_in_history (format_of id) (sent (Layered id)) n entries j.wish m (formats_read id) withheld);
-  steps = λ m. path_tells (cause j.wish events) m;
-  told = λ m verdict. (
+  steps = λ m. path_has_causes (cause j.wish events) m;
+  cause_answer = λ m verdict. (
     (λ e. let t = asked_by (verdicts j.wish events) m verdict (sym (answers m) ∙ e) in
         (record { newest = t.newest; newest_is = t.newest_is; has_come = t.has_come; is_recent = t.is_recent }, t.is_cause)),
-    (λ h. answers m ∙ ap told (told_by (verdicts j.wish events) m h.0.newest h.0.newest_is h.0.has_come h.0.is_recent) ∙ ap Told (sym h.1)),
+    (λ h. answers m ∙ ap cause_answer (reported_by (verdicts j.wish events) m h.0.newest h.0.newest_is h.0.has_come h.0.is_recent) ∙ ap CauseIs (sym h.1)),
   );
 }
   where
@@ -160,8 +160,8 @@ causes past id n j is kind = record {
     track : IsOneTrack (meanings_of events)
     track = subst (λ (k : Kind). IsOneTrack (meanings_of (timeline_as k n entries))) (sym kind) (timeline_track (format_of id) (sent (Layered id)) n entries (formats_read id)).numbers
 
-    answers : (m : ℕ) → answer past (call.Why n m) ≡ told (judged (verdicts j.wish events) m)
-    answers m = ap (λ (o : Option Joined). of_subscriber o (λ i. told (judged (verdicts_of n i past) m))) is
+    answers : (m : ℕ) → answer past (call.Why n m) ≡ cause_answer (judged (verdicts j.wish events) m)
+    answers m = ap (λ (o : Option Joined). of_subscriber o (λ i. cause_answer (judged (verdicts_of n i past) m))) is
 
 -- ---- for every track
 

@@ -9,18 +9,18 @@ use Rattle.forwarding_model.specs.forwarding.Outgoing.{marked}
 use Rattle.dd_structure.specs.TemplateStructure.{TemplateStructure}
 use Rattle.packet_format.specs.Packets.{packet_of}
 use Rattle.packet_format.specs.Remasked.{or_same, remasked, remasked_bytes, remasked_packet}
-use Rattle.packet_format.specs.Telling.{tells}
+use Rattle.packet_format.specs.CarriedMask.{carries_mask}
 use Rattle.packet_format.proofs.Remasked.{packets_remasked}
-use Rattle.packet_format.proofs.RemaskedRests.{rests_remasked, rests_tell}
+use Rattle.packet_format.proofs.RemaskedRests.{rests_remasked, rests_carry_mask}
 use Rattle.rtp_packet.specs.Faults.{first_fault}
 use Rattle.rtp_packet.proofs.Faultless.{header_there}
 use Rattle.out_ring.specs.Ring.{Ring, pushed}
 use Rattle.track_core.specs.declared.layers.Layers.{Layers}
 use Rattle.track_core.specs.Track.{id_of, structure_in}
-use Rattle.room_core.specs.Follows.{pushed_all, remasked_by, tells_by}
-use Rattle.room_core.specs.Sent.{remasked_first, tells_first}
+use Rattle.room_core.specs.Follows.{pushed_all, remasked_by, carries_mask_by}
+use Rattle.room_core.specs.Sent.{remasked_first, carries_mask_first}
 use Rattle.frame_cache.specs.Sharing.{CarriesMask}
-use Rattle.room_core.specs.FrameCache.{TellsFirst}
+use Rattle.room_core.specs.FrameCache.{CachesFirst}
 use Rattle.frame_cache.specs.declared.cache.FrameCache.{FrameCache}
 use Rattle.room_core.proofs.Rings.{length-pushed, pushed_both, pushed_is, pushed_more, pushed_none, take_next}
 use Rattle.room_core.proofs.SentMarked.{length-marked, marked_at}
@@ -77,9 +77,9 @@ push_next bytes packets top from i ring ring' first long le at so_far now =
     ∙ ap (λ (n : ℕ). pushed_all (take n ps) first) one
 
 -- there is capacity for one more packet
-pub push_room : (packets : List (List ℕ)) (top : Bool) (from i : ℕ) (ring first : Ring) → from ≤ i → i < length packets → length first.queued + length packets ≤ 512 + from
+pub push_capacity : (packets : List (List ℕ)) (top : Bool) (from i : ℕ) (ring first : Ring) → from ≤ i → i < length packets → length first.queued + length packets ≤ 512 + from
     → ring ≡ pushed_all (take (i - from) (to_queue_from from top packets)) first → length ring.queued < 512
-push_room packets top from i ring first le lt room so_far =
+push_capacity packets top from i ring first le lt capacity so_far =
     let size : length ring.queued ≡ length first.queued + length (take (i - from) (to_queue_from from top packets)) =
     ap (λ (r : Ring). length r.queued) so_far ∙ length-pushed (take (i - from) (to_queue_from from top packets)) first in
     let few : length (take (i - from) (to_queue_from from top packets)) ≤ i - from = omega (arith, length-take (i - from) (to_queue_from from top packets)) in
@@ -149,75 +149,75 @@ push_first_none layers mask top (b ∷ rest) ring none = absurd (omega (arith, n
 
 -- ---- whether the first packet carries a mask or structure
 
-pub first_tells : (l : Layers) (packets : List (List ℕ)) (bytes : List ℕ) → slice_get packets 0 ≡ Some bytes → 12 ≤ length bytes → tells l.id bytes ≡ tells_first l.id (map packet_of packets)
-first_tells l [] bytes at long = absurd cc
-first_tells l (b ∷ rest) bytes at long = let same : bytes ≡ b = cc in sym (rests_tell l.id bytes long) ∙ ap (λ (x : List ℕ). tells l.id (packet_of x).rest) same
+pub first_carries_mask : (l : Layers) (packets : List (List ℕ)) (bytes : List ℕ) → slice_get packets 0 ≡ Some bytes → 12 ≤ length bytes → carries_mask l.id bytes ≡ carries_mask_first l.id (map packet_of packets)
+first_carries_mask l [] bytes at long = absurd cc
+first_carries_mask l (b ∷ rest) bytes at long = let same : bytes ≡ b = cc in sym (rests_carry_mask l.id bytes long) ∙ ap (λ (x : List ℕ). carries_mask l.id (packet_of x).rest) same
 
-pub tells_said : (layers : Option Layers) (id : ℕ) (packets : List (List ℕ)) (bytes : List ℕ) → Some id ≡ option_map id_of layers → slice_get packets 0 ≡ Some bytes → 12 ≤ length bytes
-    → tells id bytes ≡ tells_by layers packets
-tells_said None id packets bytes is at long = absurd cc
-tells_said (Some l) id packets bytes is at long = let same : id ≡ l.id = cc in ap (λ (n : ℕ). tells n bytes) same ∙ first_tells l packets bytes at long
+pub carries_mask_said : (layers : Option Layers) (id : ℕ) (packets : List (List ℕ)) (bytes : List ℕ) → Some id ≡ option_map id_of layers → slice_get packets 0 ≡ Some bytes → 12 ≤ length bytes
+    → carries_mask id bytes ≡ carries_mask_by layers packets
+carries_mask_said None id packets bytes is at long = absurd cc
+carries_mask_said (Some l) id packets bytes is at long = let same : id ≡ l.id = cc in ap (λ (n : ℕ). carries_mask n bytes) same ∙ first_carries_mask l packets bytes at long
 
 -- ---- a packet with a mask, if it can be remasked
 
-pub telling_reads : (id mask : ℕ) (force : Option TemplateStructure) (bytes : List ℕ) → first_fault bytes ≡ None → first_fault (remasked_bytes id force mask bytes) ≡ None
-telling_reads id mask force bytes reads = by (remasked id force mask bytes) refl
+pub remasking_reads : (id mask : ℕ) (force : Option TemplateStructure) (bytes : List ℕ) → first_fault bytes ≡ None → first_fault (remasked_bytes id force mask bytes) ≡ None
+remasking_reads id mask force bytes reads = by (remasked id force mask bytes) refl
   where
     by : (o : Option (List ℕ)) → remasked id force mask bytes ≡ o → first_fault (or_same o bytes) ≡ None
     by None is = reads
     by (Some new) is = (packets_remasked id mask force bytes new is).reads reads
 
-pub telling_fits : (id mask : ℕ) (force : Option TemplateStructure) (bytes : List ℕ) → length bytes ≤ 1500 → length (remasked_bytes id force mask bytes) ≤ 1536
-telling_fits id mask force bytes fits = by (remasked id force mask bytes) refl
+pub remasking_fits : (id mask : ℕ) (force : Option TemplateStructure) (bytes : List ℕ) → length bytes ≤ 1500 → length (remasked_bytes id force mask bytes) ≤ 1536
+remasking_fits id mask force bytes fits = by (remasked id force mask bytes) refl
   where
     by : (o : Option (List ℕ)) → remasked id force mask bytes ≡ o → length (or_same o bytes) ≤ 1536
     by None is = omega (arith, fits)
     by (Some new) is = (packets_remasked id mask force bytes new is).few
 
-pub telling_pushed : (id mask : ℕ) (force : Option TemplateStructure) (bytes : List ℕ) (marker : Bool) (ring ring' : Ring) → first_fault bytes ≡ None
+pub remasking_pushed : (id mask : ℕ) (force : Option TemplateStructure) (bytes : List ℕ) (marker : Bool) (ring ring' : Ring) → first_fault bytes ≡ None
     → ring' ≡ pushed (remasked_bytes id force mask bytes) marker ring
     → ring' ≡ pushed_all (remasked_packet id force mask (record (packet_of bytes) { marker = marker }) ∷ []) ring
-telling_pushed id mask force bytes marker ring ring' reads now =
-    now ∙ pushed_is (remasked_bytes id force mask bytes) marker ring (header_there (remasked_bytes id force mask bytes) (telling_reads id mask force bytes reads))
+remasking_pushed id mask force bytes marker ring ring' reads now =
+    now ∙ pushed_is (remasked_bytes id force mask bytes) marker ring (header_there (remasked_bytes id force mask bytes) (remasking_reads id mask force bytes reads))
     ∙ ap (λ (p : Packet). pushed_all (record p { marker = marker } ∷ []) ring) (rests_remasked id mask force bytes (header_there bytes reads))
 
 -- ---- what is stored of the current frame
 
-pub keeps_nothing : (layers : Option Layers) (packets : List (List ℕ)) (told : FrameCache) → told.mask ≡ None → TellsFirst layers packets told
-keeps_nothing None packets told none = tt
-keeps_nothing (Some l) [] told none = tt
-keeps_nothing (Some l) (b ∷ rest) told none = subst (λ (m : Option ℕ). CarriesMask l.id l.table.structure b m told.packet) (sym none) tt
+pub keeps_nothing : (layers : Option Layers) (packets : List (List ℕ)) (cached : FrameCache) → cached.mask ≡ None → CachesFirst layers packets cached
+keeps_nothing None packets cached none = tt
+keeps_nothing (Some l) [] cached none = tt
+keeps_nothing (Some l) (b ∷ rest) cached none = subst (λ (m : Option ℕ). CarriesMask l.id l.table.structure b m cached.packet) (sym none) tt
 
-pub keeps_one : (layers : Option Layers) (packets : List (List ℕ)) (bytes : List ℕ) (told : FrameCache) → slice_get packets 0 ≡ Some bytes
-    → TellsFirst layers packets told → TellsFirst layers (bytes ∷ []) told
-keeps_one None packets bytes told at kept = tt
-keeps_one (Some l) [] bytes told at kept = absurd cc
-keeps_one (Some l) (b ∷ rest) bytes told at kept = let same : b ≡ bytes = cc in subst (λ (x : List ℕ). CarriesMask l.id l.table.structure x told.mask told.packet) same kept
+pub keeps_one : (layers : Option Layers) (packets : List (List ℕ)) (bytes : List ℕ) (cached : FrameCache) → slice_get packets 0 ≡ Some bytes
+    → CachesFirst layers packets cached → CachesFirst layers (bytes ∷ []) cached
+keeps_one None packets bytes cached at kept = tt
+keeps_one (Some l) [] bytes cached at kept = absurd cc
+keeps_one (Some l) (b ∷ rest) bytes cached at kept = let same : b ≡ bytes = cc in subst (λ (x : List ℕ). CarriesMask l.id l.table.structure x cached.mask cached.packet) same kept
 
-pub keeps_first : (layers : Option Layers) (packets : List (List ℕ)) (bytes : List ℕ) (told : FrameCache) → slice_get packets 0 ≡ Some bytes
-    → TellsFirst layers (bytes ∷ []) told → TellsFirst layers packets told
-keeps_first None packets bytes told at kept = tt
-keeps_first (Some l) [] bytes told at kept = tt
-keeps_first (Some l) (b ∷ rest) bytes told at kept = let same : bytes ≡ b = cc in subst (λ (x : List ℕ). CarriesMask l.id l.table.structure x told.mask told.packet) same kept
+pub keeps_first : (layers : Option Layers) (packets : List (List ℕ)) (bytes : List ℕ) (cached : FrameCache) → slice_get packets 0 ≡ Some bytes
+    → CachesFirst layers (bytes ∷ []) cached → CachesFirst layers packets cached
+keeps_first None packets bytes cached at kept = tt
+keeps_first (Some l) [] bytes cached at kept = tt
+keeps_first (Some l) (b ∷ rest) bytes cached at kept = let same : bytes ≡ b = cc in subst (λ (x : List ℕ). CarriesMask l.id l.table.structure x cached.mask cached.packet) same kept
 
 -- by the id and the structure in force
-pub keeps_by : (layers : Option Layers) (id : ℕ) (force : Option TemplateStructure) (bytes : List ℕ) (told : FrameCache) → Some id ≡ option_map id_of layers → force ≡ structure_in layers
-    → TellsFirst layers (bytes ∷ []) told → CarriesMask id force bytes told.mask told.packet
-keeps_by None id force bytes told is force_is kept = absurd cc
-keeps_by (Some l) id force bytes told is force_is kept =
+pub keeps_by : (layers : Option Layers) (id : ℕ) (force : Option TemplateStructure) (bytes : List ℕ) (cached : FrameCache) → Some id ≡ option_map id_of layers → force ≡ structure_in layers
+    → CachesFirst layers (bytes ∷ []) cached → CarriesMask id force bytes cached.mask cached.packet
+keeps_by None id force bytes cached is force_is kept = absurd cc
+keeps_by (Some l) id force bytes cached is force_is kept =
     let same : id ≡ l.id = cc in
-    subst (λ (f : Option TemplateStructure). CarriesMask id f bytes told.mask told.packet) (sym force_is)
-    (subst (λ (n : ℕ). CarriesMask n l.table.structure bytes told.mask told.packet) (sym same) kept)
+    subst (λ (f : Option TemplateStructure). CarriesMask id f bytes cached.mask cached.packet) (sym force_is)
+    (subst (λ (n : ℕ). CarriesMask n l.table.structure bytes cached.mask cached.packet) (sym same) kept)
 
-pub keeps_on : (layers : Option Layers) (id : ℕ) (force : Option TemplateStructure) (bytes : List ℕ) (told : FrameCache) → Some id ≡ option_map id_of layers → force ≡ structure_in layers
-    → CarriesMask id force bytes told.mask told.packet → TellsFirst layers (bytes ∷ []) told
-keeps_on None id force bytes told is force_is kept = tt
-keeps_on (Some l) id force bytes told is force_is kept =
+pub keeps_on : (layers : Option Layers) (id : ℕ) (force : Option TemplateStructure) (bytes : List ℕ) (cached : FrameCache) → Some id ≡ option_map id_of layers → force ≡ structure_in layers
+    → CarriesMask id force bytes cached.mask cached.packet → CachesFirst layers (bytes ∷ []) cached
+keeps_on None id force bytes cached is force_is kept = tt
+keeps_on (Some l) id force bytes cached is force_is kept =
     let same : id ≡ l.id = cc in
-    subst (λ (n : ℕ). CarriesMask n l.table.structure bytes told.mask told.packet) same
-    (subst (λ (f : Option TemplateStructure). CarriesMask id f bytes told.mask told.packet) force_is kept)
+    subst (λ (n : ℕ). CarriesMask n l.table.structure bytes cached.mask cached.packet) same
+    (subst (λ (f : Option TemplateStructure). CarriesMask id f bytes cached.mask cached.packet) force_is kept)
 
 -- on a plain track it is unchanged
-pub none_told : (layers : Option Layers) (mask : ℕ) (ps : List Packet) → None ≡ option_map id_of layers → remasked_by layers mask ps ≡ ps
-none_told None mask ps is = refl
-none_told (Some l) mask ps is = absurd (let none : None ≡ Some l.id = is in cc)
+pub none_remasked : (layers : Option Layers) (mask : ℕ) (ps : List Packet) → None ≡ option_map id_of layers → remasked_by layers mask ps ≡ ps
+none_remasked None mask ps is = refl
+none_remasked (Some l) mask ps is = absurd (let none : None ≡ Some l.id = is in cc)

@@ -15,7 +15,7 @@ use Rattle.room_core.specs.declared.feed.Feed.{Feed}
 use Rattle.room_core.specs.Counts.{feed_counts, greatest_count, saturated}
 use Rattle.room_core.specs.Content.{IsAfter}
 use Rattle.room_core.specs.CountsOf.{HasCounts, subscriber_counts_for}
-use Rattle.room_core.specs.CurrentTargets.{told_of}
+use Rattle.room_core.specs.CurrentTargets.{ok_of_subscriber}
 use Rattle.room_core.specs.Given.{resends_of}
 use Rattle.room_core.specs.Live.{Joined, joined, kind_of}
 use Rattle.room_core.specs.Sent.{sent}
@@ -52,13 +52,13 @@ counts_follow feed queued waiting resent is sum kind to events resends h sent_ag
     ∙ ap₂ (λ (q w : ℕ). reported (feed_counts to.wish events) q w resent) total waits
     ∙ ap (reported (feed_counts to.wish events) (saturated (length out)) (length (queue (sent kind) to events))) sent_again
 
-pub subscriber_told : (content : Content) (n : ℕ) (known : LiveSubscriber) (feed : Feed) (result : SubscriberCounts) (past : List Call)
+pub subscriber_reported : (content : Content) (n : ℕ) (known : LiveSubscriber) (feed : Feed) (result : SubscriberCounts) (past : List Call)
     → Some known ≡ get nat_eq content.subscribers n → feed ≡ known.feed.value → HasCounts feed known.resent result → IsAfter content past
-    → ◌≡◌ {A = Result SubscriberCounts Refusal} (Ok result) (told_of (joined n past) (λ j. subscriber_counts_for n j past))
-subscriber_told content n known feed result past found same counts after =
+    → ◌≡◌ {A = Result SubscriberCounts Refusal} (Ok result) (ok_of_subscriber (joined n past) (λ j. subscriber_counts_for n j past))
+subscriber_reported content n known feed result past found same counts after =
     let there = found_subscriber content past n known found after in
     let counted : result ≡ subscriber_counts_for n there.0 past =
     subst (λ (f : Feed). HasCounts f known.resent result) same counts (kind_of there.0.track past) (subscriber_by there.0) (events_for n there.0 past) (resends_of n past)
     there.2.follows there.2.resent_is in
     ap (λ (k : SubscriberCounts). let answer : Result SubscriberCounts Refusal = Ok k in answer) counted
-    ∙ sym (ap (λ (o : Option Joined). told_of o (λ j. subscriber_counts_for n j past)) there.1)
+    ∙ sym (ap (λ (o : Option Joined). ok_of_subscriber o (λ j. subscriber_counts_for n j past)) there.1)

@@ -19,23 +19,23 @@ use Rattle.dd_structure.specs.TemplateStructure.{TemplateStructure}
 use Rattle.packet_format.specs.Formats.{format_of as the_format}
 use Rattle.packet_format.specs.Packets.{packet_of}
 use Rattle.packet_format.specs.Remasked.{or_same, remasked, remasked_bytes, remasked_packet}
-use Rattle.packet_format.specs.RemaskedReads.{telling}
+use Rattle.packet_format.specs.RemaskedReads.{remasked_as}
 use Rattle.packet_format.proofs.Remasked.{first_shows, packets_remasked}
 use Rattle.packet_format.proofs.RemaskedRests.{rests_remasked}
 use Rattle.room_core.specs.Formats.{format_of}
-use Rattle.room_core.specs.Sent.{layered_sent, opens, remasked_first, sent, tells_first}
+use Rattle.room_core.specs.Sent.{layered_sent, opens, remasked_first, sent, carries_mask_first}
 use Rattle.target_selector.specs.Masks.{mask_for}
 use Rattle.room_core.proofs.CameIn.{CameIn}
 use Rattle.target_selector.proofs.TargetBits.{mask_small}
-use Rattle.room_core.proofs.SentMarked.{with_told}
+use Rattle.room_core.proofs.SentMarked.{with_remasked}
 use Rattle.room_core.proofs.Stepping.{format_is}
 
 -- ---- the first packet reads as before, but for its mask
 
 module _ (id mask : ℕ) (s : TemplateStructure) (f : FrameMeaning) where
-  first_told : (rest new : List ℕ) (d : Descriptor TemplateStructure) (joins : Joins) → IsReadFrame (the_format id) (record { meaning = f; structure = s; packets = [] }) → mask < 2 ^ f.target_count
-      → remasked id (Some s) mask rest ≡ Some new → IsFirst (the_format id) s f rest d joins → IsFirst (the_format id) s f new (telling mask d) joins
-  first_told rest new d joins read small is first = record {
+  first_remasked : (rest new : List ℕ) (d : Descriptor TemplateStructure) (joins : Joins) → IsReadFrame (the_format id) (record { meaning = f; structure = s; packets = [] }) → mask < 2 ^ f.target_count
+      → remasked id (Some s) mask rest ≡ Some new → IsFirst (the_format id) s f rest d joins → IsFirst (the_format id) s f new (remasked_as mask d) joins
+  first_remasked rest new d joins read small is first = record {
     reads = first_shows id mask s f.key rest d (Elements joins) read.carried (subst (λ (n : ℕ). mask < 2 ^ n) read.targets small) first.key first.structure new is first.reads;
     start = first.start;
     continues = first.continues;
@@ -45,30 +45,30 @@ module _ (id mask : ℕ) (s : TemplateStructure) (f : FrameMeaning) where
     structure = first.structure;
   }
 
-  whole_told : (p : Packet) (ps : List Packet) → IsReadFrame (the_format id) (record { meaning = f; structure = s; packets = [] }) → mask < 2 ^ f.target_count
+  whole_remasked : (p : Packet) (ps : List Packet) → IsReadFrame (the_format id) (record { meaning = f; structure = s; packets = [] }) → mask < 2 ^ f.target_count
       → AreWhole (the_format id) s f (p.rest ∷ map rest_of ps) → AreWhole (the_format id) s f (remasked_bytes id (Some s) mask p.rest ∷ map rest_of ps)
-  whole_told p ps read small whole = go (remasked id (Some s) mask p.rest) refl
+  whole_remasked p ps read small whole = go (remasked id (Some s) mask p.rest) refl
     where
       go : (o : Option (List ℕ)) → remasked id (Some s) mask p.rest ≡ o → AreWhole (the_format id) s f (or_same o p.rest ∷ map rest_of ps)
       go None is = whole
-      go (Some new) is = (telling mask whole.0, whole.1, first_told p.rest new whole.0 whole.1 read small is whole.2, whole.3)
+      go (Some new) is = (remasked_as mask whole.0, whole.1, first_remasked p.rest new whole.0 whole.1 read small is whole.2, whole.3)
 
-told_whole : (id : ℕ) (frame : Frame TemplateStructure) (tells : Bool) (mask : ℕ) → mask < 2 ^ frame.meaning.target_count
-    → IsReadFrame (the_format id) frame → IsWholeFrame (the_format id) frame → IsWholeFrame (the_format id) (with_told id frame tells mask)
-told_whole id frame false mask small read whole = whole
-told_whole id frame true mask small read whole = go frame.packets whole
+remasked_whole : (id : ℕ) (frame : Frame TemplateStructure) (carries_mask : Bool) (mask : ℕ) → mask < 2 ^ frame.meaning.target_count
+    → IsReadFrame (the_format id) frame → IsWholeFrame (the_format id) frame → IsWholeFrame (the_format id) (with_remasked id frame carries_mask mask)
+remasked_whole id frame false mask small read whole = whole
+remasked_whole id frame true mask small read whole = go frame.packets whole
   where
     go : (ps : List Packet) → AreWhole (the_format id) frame.structure frame.meaning (map rest_of ps)
         → AreWhole (the_format id) frame.structure frame.meaning (map rest_of (remasked_first id (Some frame.structure) mask ps))
     go [] h = h
-    go (p ∷ ps) h = whole_told id mask frame.structure frame.meaning p ps read small h
+    go (p ∷ ps) h = whole_remasked id mask frame.structure frame.meaning p ps read small h
 
 sent_whole : (id : ℕ) → KeepsWhole (the_format id) (sent (Layered id))
 unfolding layered_sent
 sent_whole id frame valid read whole target =
-    let tells = opens frame.meaning target || tells_first id frame.packets in
+    let carries_mask = opens frame.meaning target || carries_mask_first id frame.packets in
     let mask = mask_for frame.meaning (open_target target) in
-    marked_sent_whole (the_format id) (with_told id frame tells mask) (told_whole id frame tells mask (mask_small frame.meaning (open_target target)) read whole) target
+    marked_sent_whole (the_format id) (with_remasked id frame carries_mask mask) (remasked_whole id frame carries_mask mask (mask_small frame.meaning (open_target target)) read whole) target
 
 pub sent_keeps_whole : (id : ℕ) → KeepsWhole (format_of id) (sent (Layered id))
 sent_keeps_whole id = subst (λ (format : Format TemplateStructure). KeepsWhole format (sent (Layered id))) (sym (format_is id)) (sent_whole id)
@@ -99,9 +99,9 @@ remasked_came id mask force p came = record {
     go None is = came.reads
     go (Some new) is = (packets_remasked id mask force came.bytes new is).reads came.reads
 
-told_came : (id : ℕ) (frame : Frame TemplateStructure) (tells : Bool) (mask : ℕ) → AllByRecursion CameIn frame.packets → AllByRecursion CameIn (with_told id frame tells mask).packets
-told_came id frame false mask all = all
-told_came id frame true mask all = go frame.packets all
+came_remasked : (id : ℕ) (frame : Frame TemplateStructure) (carries_mask : Bool) (mask : ℕ) → AllByRecursion CameIn frame.packets → AllByRecursion CameIn (with_remasked id frame carries_mask mask).packets
+came_remasked id frame false mask all = all
+came_remasked id frame true mask all = go frame.packets all
   where
     go : (ps : List Packet) → AllByRecursion CameIn ps → AllByRecursion CameIn (remasked_first id (Some frame.structure) mask ps)
     go [] all = tt
@@ -112,6 +112,6 @@ pub sent_sendable : (kind : Kind) (frame : Frame TemplateStructure) (target : Cu
 unfolding layered_sent
 sent_sendable Plain frame target all = marked_sendable (is_top_layer frame.meaning target) frame.packets all
 sent_sendable (Layered id) frame target all =
-    let tells = opens frame.meaning target || tells_first id frame.packets in
+    let carries_mask = opens frame.meaning target || carries_mask_first id frame.packets in
     let mask = mask_for frame.meaning (open_target target) in
-    marked_sendable (is_top_layer frame.meaning target) (with_told id frame tells mask).packets (told_came id frame tells mask all)
+    marked_sendable (is_top_layer frame.meaning target) (with_remasked id frame carries_mask mask).packets (came_remasked id frame carries_mask mask all)

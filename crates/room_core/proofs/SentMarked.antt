@@ -16,18 +16,18 @@ use Rattle.packet_format.specs.Packets.{packet_of}
 use Rattle.out_ring.specs.Ring.{Ring}
 use Rattle.track_core.specs.declared.layers.Layers.{Layers}
 use Rattle.track_core.specs.Track.{Seen, structure_in}
-use Rattle.room_core.specs.Follows.{PushesFrame, frame_by, pushed_all, remasked_by, tells_by}
-use Rattle.room_core.specs.Sent.{layered_sent, opens, remasked_first, sent, tells_first}
+use Rattle.room_core.specs.Follows.{PushesFrame, frame_by, pushed_all, remasked_by, carries_mask_by}
+use Rattle.room_core.specs.Sent.{layered_sent, opens, remasked_first, sent, carries_mask_first}
 use Rattle.target_selector.specs.Masks.{mask_for}
 use Rattle.room_core.specs.Stepping.{kind_by}
 
 -- the frame with its sent packets, except for the marker
-abbrev pub with_told : ℕ → Frame TemplateStructure → Bool → ℕ → Frame TemplateStructure
-with_told id frame tells mask = record frame { packets = if tells then remasked_first id (Some frame.structure) mask frame.packets else frame.packets }
+abbrev pub with_remasked : ℕ → Frame TemplateStructure → Bool → ℕ → Frame TemplateStructure
+with_remasked id frame carries_mask mask = record frame { packets = if carries_mask then remasked_first id (Some frame.structure) mask frame.packets else frame.packets }
 
-length-told : (id : ℕ) (frame : Frame TemplateStructure) (tells : Bool) (mask : ℕ) → length (with_told id frame tells mask).packets ≡ length frame.packets
-length-told id frame false mask = refl
-length-told id frame true mask = go frame.packets
+length-is_remasked : (id : ℕ) (frame : Frame TemplateStructure) (carries_mask : Bool) (mask : ℕ) → length (with_remasked id frame carries_mask mask).packets ≡ length frame.packets
+length-is_remasked id frame false mask = refl
+length-is_remasked id frame true mask = go frame.packets
   where
     go : (ps : List Packet) → length (remasked_first id (Some frame.structure) mask ps) ≡ length ps
     go [] = refl
@@ -38,55 +38,55 @@ pub sent_keeps_count : (kind : Kind) → KeepsCount (sent kind)
 unfolding layered_sent
 sent_keeps_count Plain frame target = marked_keeps_count frame target
 sent_keeps_count (Layered id) frame target =
-    let tells = opens frame.meaning target || tells_first id frame.packets in
+    let carries_mask = opens frame.meaning target || carries_mask_first id frame.packets in
     let mask = mask_for frame.meaning (open_target target) in
-    marked_keeps_count (with_told id frame tells mask) target ∙ length-told id frame tells mask
+    marked_keeps_count (with_remasked id frame carries_mask mask) target ∙ length-is_remasked id frame carries_mask mask
 
 -- the queued packets of a frame, if the first packet gets another mask or if none does
 abbrev pub queued_by : Bool → Option Layers → ℕ → List (List ℕ) → List Packet
-queued_by tells layers mask packets = if tells then remasked_by layers mask (map packet_of packets) else map packet_of packets
+queued_by carries_mask layers mask packets = if carries_mask then remasked_by layers mask (map packet_of packets) else map packet_of packets
 
 -- the same packets, if the mask and the test are those of the definition
-same_told : (layers : Option Layers) (id : ℕ) (structure : TemplateStructure) (tells : Bool) (mask : ℕ) (meaning : FrameMeaning) (packets : List (List ℕ))
-    → kind_by layers ≡ Layered id → structure_in layers ≡ Some structure → queued_by tells layers mask packets ≡ (with_told id (frame_by meaning structure packets) tells mask).packets
-same_told None id structure tells mask meaning packets kind force = absurd cc
-same_told (Some l) id structure false mask meaning packets kind force = refl
-same_told (Some l) id structure true mask meaning packets kind force =
+same_remasked : (layers : Option Layers) (id : ℕ) (structure : TemplateStructure) (carries_mask : Bool) (mask : ℕ) (meaning : FrameMeaning) (packets : List (List ℕ))
+    → kind_by layers ≡ Layered id → structure_in layers ≡ Some structure → queued_by carries_mask layers mask packets ≡ (with_remasked id (frame_by meaning structure packets) carries_mask mask).packets
+same_remasked None id structure carries_mask mask meaning packets kind force = absurd cc
+same_remasked (Some l) id structure false mask meaning packets kind force = refl
+same_remasked (Some l) id structure true mask meaning packets kind force =
     let same : l.id ≡ id = cc in
     ap (λ (n : ℕ). remasked_first n l.table.structure mask (map packet_of packets)) same ∙ ap (λ (o : Option TemplateStructure). remasked_first id o mask (map packet_of packets)) force
 
-plain_told : (layers : Option Layers) (tells : Bool) (mask : ℕ) (packets : List (List ℕ)) → kind_by layers ≡ Plain → queued_by tells layers mask packets ≡ map packet_of packets
-plain_told None true mask packets kind = refl
-plain_told None false mask packets kind = refl
-plain_told (Some l) tells mask packets kind = absurd cc
+plain_remasked : (layers : Option Layers) (carries_mask : Bool) (mask : ℕ) (packets : List (List ℕ)) → kind_by layers ≡ Plain → queued_by carries_mask layers mask packets ≡ map packet_of packets
+plain_remasked None true mask packets kind = refl
+plain_remasked None false mask packets kind = refl
+plain_remasked (Some l) carries_mask mask packets kind = absurd cc
 
-same_tells : (layers : Option Layers) (id : ℕ) (packets : List (List ℕ)) → kind_by layers ≡ Layered id → tells_by layers packets ≡ tells_first id (map packet_of packets)
-same_tells None id packets kind = absurd cc
-same_tells (Some l) id packets kind = let same : l.id ≡ id = cc in ap (λ (n : ℕ). tells_first n (map packet_of packets)) same
+same_carries_mask : (layers : Option Layers) (id : ℕ) (packets : List (List ℕ)) → kind_by layers ≡ Layered id → carries_mask_by layers packets ≡ carries_mask_first id (map packet_of packets)
+same_carries_mask None id packets kind = absurd cc
+same_carries_mask (Some l) id packets kind = let same : l.id ≡ id = cc in ap (λ (n : ℕ). carries_mask_first n (map packet_of packets)) same
 
-same_mask : (id : ℕ) (frame : Frame TemplateStructure) (tells : Bool) (mask other : ℕ) → (tells ≡ true → mask ≡ other) → with_told id frame tells mask ≡ with_told id frame tells other
-same_mask id frame true mask other same = ap (with_told id frame true) (same refl)
+same_mask : (id : ℕ) (frame : Frame TemplateStructure) (carries_mask : Bool) (mask other : ℕ) → (carries_mask ≡ true → mask ≡ other) → with_remasked id frame carries_mask mask ≡ with_remasked id frame carries_mask other
+same_mask id frame true mask other same = ap (with_remasked id frame true) (same refl)
 same_mask id frame false mask other same = refl
 
 -- the queued packets of a frame are its sent packets
-pub sends_frame : (kind : Kind) (old new : Ring) (meaning : FrameMeaning) (structure : TemplateStructure) (track : Seen) (is_top told : Bool) (mask : ℕ) (target : CurrentTarget)
+pub sends_frame : (kind : Kind) (old new : Ring) (meaning : FrameMeaning) (structure : TemplateStructure) (track : Seen) (is_top is_remasked : Bool) (mask : ℕ) (target : CurrentTarget)
     → kind_by track.layers ≡ kind → structure_in track.layers ≡ Some structure
-    → is_top ≡ is_top_layer meaning target → told ≡ (opens meaning target || tells_by track.layers track.packets) → (told ≡ true → mask ≡ mask_for meaning (open_target target))
-    → PushesFrame old new (queued_by told track.layers mask track.packets) is_top
+    → is_top ≡ is_top_layer meaning target → is_remasked ≡ (opens meaning target || carries_mask_by track.layers track.packets) → (is_remasked ≡ true → mask ≡ mask_for meaning (open_target target))
+    → PushesFrame old new (queued_by is_remasked track.layers mask track.packets) is_top
     → new ≡ pushed_all (sent kind (frame_by meaning structure track.packets) target) old
 unfolding layered_sent
-sends_frame Plain old new meaning structure track is_top told mask target kind force top tells masks pushes =
-    pushes ∙ ap (λ (ps : List Packet). pushed_all (marked is_top ps) old) (plain_told track.layers told mask track.packets kind)
+sends_frame Plain old new meaning structure track is_top is_remasked mask target kind force top carries_mask masks pushes =
+    pushes ∙ ap (λ (ps : List Packet). pushed_all (marked is_top ps) old) (plain_remasked track.layers is_remasked mask track.packets kind)
     ∙ ap (λ (b : Bool). pushed_all (marked b (map packet_of track.packets)) old) top
-sends_frame (Layered id) old new meaning structure track is_top told mask target kind force top tells masks pushes =
+sends_frame (Layered id) old new meaning structure track is_top is_remasked mask target kind force top carries_mask masks pushes =
     let frame = frame_by meaning structure track.packets in
     let right = mask_for meaning (open_target target) in
-    let asked : told ≡ (opens meaning target || tells_first id frame.packets) =
-    tells ∙ ap (λ (b : Bool). opens meaning target || b) (same_tells track.layers id track.packets kind) in
+    let asked : is_remasked ≡ (opens meaning target || carries_mask_first id frame.packets) =
+    carries_mask ∙ ap (λ (b : Bool). opens meaning target || b) (same_carries_mask track.layers id track.packets kind) in
     pushes
-    ∙ ap (λ (ps : List Packet). pushed_all (marked is_top ps) old) (same_told track.layers id structure told mask meaning track.packets kind force ∙ ap (λ (f : Frame TemplateStructure). f.packets) (same_mask id frame told mask right masks))
-    ∙ ap (λ (b : Bool). pushed_all (marked is_top (with_told id frame b right).packets) old) asked
-    ∙ ap (λ (b : Bool). pushed_all (marked b (with_told id frame (opens meaning target || tells_first id frame.packets) right).packets) old) top
+    ∙ ap (λ (ps : List Packet). pushed_all (marked is_top ps) old) (same_remasked track.layers id structure is_remasked mask meaning track.packets kind force ∙ ap (λ (f : Frame TemplateStructure). f.packets) (same_mask id frame is_remasked mask right masks))
+    ∙ ap (λ (b : Bool). pushed_all (marked is_top (with_remasked id frame b right).packets) old) asked
+    ∙ ap (λ (b : Bool). pushed_all (marked b (with_remasked id frame (opens meaning target || carries_mask_first id frame.packets) right).packets) old) top
 
 -- ---- markers
 

@@ -22,8 +22,8 @@ use Rattle.room_core.proofs.WellFormed.{well_formed_after}
 use Rattle.room_core.proofs.Promising.{headline}
 
 -- a recorder that noted the call shows the calls that the longer history has
-keeps_more : (told told' : Option (List Noted)) (history : List Entry) (seat : ℕ) (call : Call) (starved : Bool) → starved ≡ false → Notes told told' seat call
-    → IfSome told (λ notes. notes ≡ kept history) → IfSome told' (λ notes. notes ≡ kept (history ++ record { seat = seat; call = call; starved = starved } ∷ []))
+keeps_more : (recorded recorded' : Option (List Noted)) (history : List Entry) (seat : ℕ) (call : Call) (starved : Bool) → starved ≡ false → Notes recorded recorded' seat call
+    → IfSome recorded (λ notes. notes ≡ kept history) → IfSome recorded' (λ notes. notes ≡ kept (history ++ record { seat = seat; call = call; starved = starved } ∷ []))
 keeps_more None None history seat call starved fed notes h = tt
 keeps_more None (Some new) history seat call starved fed notes h = absurd notes
 keeps_more (Some old) None history seat call starved fed notes h = absurd notes
@@ -68,8 +68,8 @@ starves noted old new seat call bytes numbers same notes = record {
       };
 }
   where
-    keeps_as : (told : Option (List Noted)) (history : List Entry) (entry : Entry) → entry.starved ≡ true → IfSome told (λ notes. notes ≡ kept history)
-        → IfSome told (λ notes. notes ≡ kept (history ++ entry ∷ []))
+    keeps_as : (recorded : Option (List Noted)) (history : List Entry) (entry : Entry) → entry.starved ≡ true → IfSome recorded (λ notes. notes ≡ kept history)
+        → IfSome recorded (λ notes. notes ≡ kept (history ++ entry ∷ []))
     keeps_as None history entry e h = tt
     keeps_as (Some ns) history entry e h =
         h ∙ sym (flat_map-append noted_of history (entry ∷ []) ∙ ap (λ (t : Bool). kept history ++ (cond t [] (record { seat = entry.seat; call = entry.call } ∷ []) ++ [])) e ∙ append-nil (kept history))

@@ -5,7 +5,7 @@ use Rattle.out_ring.proofs.Lists.{item_before_end, take_one_more}
 use Rattle.track_core.specs.declared.layers.Layers.{Layers}
 use Rattle.frame_cache.specs.declared.cache.FrameCache.{FrameCache}
 use Rattle.frame_cache.specs.Sharing.{AreFirst, IsShared, MayShare, CarriesMask}
-use Rattle.room_core.specs.FrameCache.{IsOfFrame, TellsFirst}
+use Rattle.room_core.specs.FrameCache.{IsOfFrame, CachesFirst}
 use Rattle.room_core.proofs.Pushing.{keeps_nothing}
 
 -- the packet shared at an index of the frame is the frame's packet there
@@ -36,16 +36,16 @@ shared_grows place packet old new (inr one) =
 
 pub frame_begins : (layers : Option Layers) (packets : List (List ℕ)) (cache : FrameCache) → cache.mask ≡ None → cache.shared.items ≡ [] → IsOfFrame layers packets cache
 frame_begins layers packets cache none empty = record {
-  told = keeps_nothing layers packets cache none;
+  cached = keeps_nothing layers packets cache none;
   shared = subst (λ (l : List (List ℕ)). AreFirst l packets) (sym empty) refl;
 }
 
 -- the remasked packet stays if neither the mask nor the packet changed
-pub told_stays : (layers : Option Layers) (packets : List (List ℕ)) (old new : FrameCache) → new.mask ≡ old.mask → new.packet ≡ old.packet
-    → TellsFirst layers packets old → TellsFirst layers packets new
-told_stays None packets old new mask packet h = tt
-told_stays (Some l) [] old new mask packet h = tt
-told_stays (Some l) (b ∷ rest) old new mask packet h =
+pub cached_stays : (layers : Option Layers) (packets : List (List ℕ)) (old new : FrameCache) → new.mask ≡ old.mask → new.packet ≡ old.packet
+    → CachesFirst layers packets old → CachesFirst layers packets new
+cached_stays None packets old new mask packet h = tt
+cached_stays (Some l) [] old new mask packet h = tt
+cached_stays (Some l) (b ∷ rest) old new mask packet h =
     subst (λ (m : Option ℕ). CarriesMask l.id l.table.structure b m new.packet) (sym mask)
     (subst (λ (p : List ℕ). CarriesMask l.id l.table.structure b old.mask p) (sym packet) h)
 
@@ -54,6 +54,6 @@ pub frame_goes_on : (layers : Option Layers) (packets : List (List ℕ)) (old ne
     → slice_get packets place ≡ Some packet → MayShare place packet old.shared.items new.shared.items → new.mask ≡ old.mask → new.packet ≡ old.packet
     → IsOfFrame layers packets new
 frame_goes_on layers packets old new place packet h at shared mask same = record {
-  told = told_stays layers packets old new mask same h.told;
+  cached = cached_stays layers packets old new mask same h.cached;
   shared = more_shared old.shared.items new.shared.items packets place packet h.shared at shared;
 }

@@ -17,7 +17,7 @@ use Rattle.track_core.specs.Counts.{arrived_in, given_up_in, key_frames_in, pack
 use Rattle.room_core.specs.declared.counts.SubscriberCounts.{SubscriberCounts}
 use Rattle.room_core.specs.declared.feed.Feed.{Feed}
 use Rattle.room_core.specs.Counts.{how_many, is_behind, is_full, is_link, is_not_of_target, is_passed, is_reference, is_unopened, left_out_of, saturated}
-use Rattle.room_core.specs.CurrentTargets.{told_of}
+use Rattle.room_core.specs.CurrentTargets.{ok_of_subscriber}
 use Rattle.room_core.specs.Follows.{Follows, Happened}
 use Rattle.room_core.specs.Formats.{format_of}
 use Rattle.room_core.specs.Given.{resends_of}
@@ -25,7 +25,7 @@ use Rattle.room_core.specs.History.{Entry, accepted}
 use Rattle.room_core.specs.Live.{Joined, hold_of, joined, kind_of, published}
 use Rattle.room_core.specs.Sent.{sent}
 use Rattle.room_core.specs.TrackHistory.{entries_of, events_of}
-use Rattle.room_core.specs.TrackQuestions.{frames_of, told_of_track}
+use Rattle.room_core.specs.TrackQuestions.{frames_of, ok_of_track}
 use Rattle.room_core.specs.Views.{events_for, subscriber_by}
 
 -- ---- a subscriber
@@ -57,7 +57,7 @@ subscriber_counts_for number j past = subscriber_counts (kind_of j.track past) (
 
 abbrev pub AreSubscriberCounts : List Entry → ℕ → Result SubscriberCounts Refusal → Type 0
 AreSubscriberCounts history subscriber result =
-    result ≡ told_of (joined subscriber (accepted history)) (λ j. subscriber_counts_for subscriber j (accepted history))
+    result ≡ ok_of_subscriber (joined subscriber (accepted history)) (λ j. subscriber_counts_for subscriber j (accepted history))
 
 -- ---- a track
 
@@ -83,4 +83,4 @@ abbrev pub track_counts_at : ℕ → List Call → TrackCounts
 track_counts_at track past = counts_of (kind_of track past) (pieces_at track past) (items_of (entries_of track past))
 
 abbrev pub AreTrackCounts : List Entry → ℕ → Result TrackCounts Refusal → Type 0
-AreTrackCounts history track result = result ≡ told_of_track (published track (accepted history)) (track_counts_at track (accepted history))
+AreTrackCounts history track result = result ≡ ok_of_track (published track (accepted history)) (track_counts_at track (accepted history))

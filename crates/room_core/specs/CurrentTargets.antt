@@ -34,14 +34,14 @@ abbrev pub reaches_for : ℕ → Joined → List Call → Bool
 reaches_for number j past = reaches (newest_frame (events_for number j past)) (standing_of number j past).wish (standing_of number j past).target
 
 -- the result of a query for a live subscriber; for any other number the refusal
-abbrev pub told_of : {X : Type 0} → Option Joined → (Joined → X) → Result X Refusal
-told_of None tell = Err NoSubscriber
-told_of (Some j) tell = Ok (tell j)
+abbrev pub ok_of_subscriber : {X : Type 0} → Option Joined → (Joined → X) → Result X Refusal
+ok_of_subscriber None asked = Err NoSubscriber
+ok_of_subscriber (Some j) asked = Ok (asked j)
 
 abbrev pub IsTargetOf : List Entry → ℕ → Result (Option DecodeTarget) Refusal → Type 0
 IsTargetOf history subscriber result =
-    result ≡ told_of (joined subscriber (accepted history)) (λ j. target_for subscriber j (accepted history))
+    result ≡ ok_of_subscriber (joined subscriber (accepted history)) (λ j. target_for subscriber j (accepted history))
 
 abbrev pub IsReachedBy : List Entry → ℕ → Result Bool Refusal → Type 0
 IsReachedBy history subscriber result =
-    result ≡ told_of (joined subscriber (accepted history)) (λ j. reaches_for subscriber j (accepted history))
+    result ≡ ok_of_subscriber (joined subscriber (accepted history)) (λ j. reaches_for subscriber j (accepted history))

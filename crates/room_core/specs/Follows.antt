@@ -22,7 +22,7 @@ use Rattle.target_selector.specs.Stands.{StandsFor}
 use Rattle.track_core.specs.declared.layers.Layers.{Layers}
 use Rattle.track_core.specs.Track.{Seen, structure_in}
 use Rattle.room_core.specs.Stepping.{kind_by}
-use Rattle.room_core.specs.Sent.{remasked_first, sent, tells_first}
+use Rattle.room_core.specs.Sent.{remasked_first, sent, carries_mask_first}
 use Rattle.room_core.specs.Targets.{has_no_target}
 use Rattle.room_core.specs.CurrentTargets.{newest_frame, target_in}
 use Rattle.room_core.specs.declared.current_target.DecodeTarget.{DecodeTarget}
@@ -125,8 +125,8 @@ abbrev pub HasReached : Feed → Bool → Type 0
 HasReached feed result = (kind : Kind) (to : Subscriber) (events : List Happened) → Follows kind feed to events
     → result ≡ reaches (newest_frame events) (standing to.wish events).wish (standing to.wish events).target
 
-abbrev pub Tells : Feed → ℕ → Result Verdict Refusal → Type 0
-Tells feed number result = (kind : Kind) (to : Subscriber) (events : List Happened) → Follows kind feed to events → IsOneTrack (meanings_of events)
+abbrev pub IsCauseOf : Feed → ℕ → Result Verdict Refusal → Type 0
+IsCauseOf feed number result = (kind : Kind) (to : Subscriber) (events : List Happened) → Follows kind feed to events → IsOneTrack (meanings_of events)
     → result ≡ judged (verdicts to.wish events) number
 
 -- ---- the packets of a frame
@@ -145,9 +145,9 @@ PushesBehind from old new packets is_top = new ≡ pushed_all (drop from (marked
 
 -- ---- the first packet of a frame, for a track with or without layers
 
-abbrev pub tells_by : Option Layers → List (List ℕ) → Bool
-tells_by None packets = false
-tells_by (Some l) packets = tells_first l.id (map packet_of packets)
+abbrev pub carries_mask_by : Option Layers → List (List ℕ) → Bool
+carries_mask_by None packets = false
+carries_mask_by (Some l) packets = carries_mask_first l.id (map packet_of packets)
 
 abbrev pub remasked_by : Option Layers → ℕ → List Packet → List Packet
 remasked_by None mask packets = packets

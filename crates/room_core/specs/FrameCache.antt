@@ -5,12 +5,12 @@ use Rattle.frame_cache.specs.declared.cache.FrameCache.{FrameCache}
 use Rattle.frame_cache.specs.Sharing.{AreFirst, CarriesMask}
 
 -- If the track is layered and a mask is cached, the cached packet is the first of these packets with this mask.
-abbrev pub TellsFirst : Option Layers → List (List ℕ) → FrameCache → Type 0
-TellsFirst None packets told = Unit {0}
-TellsFirst (Some l) [] told = Unit {0}
-TellsFirst (Some l) (packet ∷ rest) told = CarriesMask l.id l.table.structure packet told.mask told.packet
+abbrev pub CachesFirst : Option Layers → List (List ℕ) → FrameCache → Type 0
+CachesFirst None packets cached = Unit {0}
+CachesFirst (Some l) [] cached = Unit {0}
+CachesFirst (Some l) (packet ∷ rest) cached = CarriesMask l.id l.table.structure packet cached.mask cached.packet
 
 -- what is stored belongs to the frame with these packets
 pub record IsOfFrame (layers : Option Layers) (packets : List (List ℕ)) (cache : FrameCache) : Type 0 where
-  pub told : TellsFirst layers packets cache
+  pub cached : CachesFirst layers packets cache
   pub shared : AreFirst cache.shared.items packets

@@ -1,7 +1,7 @@
 -- The guarantees for each live subscriber, for every history. These are own statements, over the definitions of forwarding.
 use Rattle.std.specs.Prelude.{◌≡◌, ◌↔◌, ◌≤◌, ◌<◌, ◌+◌, ℕ, List, ◌∷◌, ◌++◌, true, map, length, None, Some}
 use Rattle.std.specs.List.{AllByRecursion}
-use Rattle.sfu_base.specs.Answer.{Refused, Sent, Told}
+use Rattle.sfu_base.specs.Answer.{Refused, Sent, CauseIs}
 use Rattle.sfu_base.specs.declared.call.Call.{Call}
 use Rattle.sfu_base.specs.declared.call.Call.TheVariants.{Resend, Take, Why}
 use Rattle.sfu_base.specs.declared.call.Kind.TheVariants.{Layered}
@@ -14,7 +14,7 @@ use Rattle.forwarding_model.specs.forwarding.Timeline.{Frame}
 use Rattle.forwarding_model.specs.forwarding.Timeline.Event.{WholeFrame}
 use Rattle.forwarding_model.specs.forwarding.Standing.{passes_at, standing}
 use Rattle.forwarding_model.specs.forwarding.Decodable.{IsDecodable, of_epoch}
-use Rattle.forwarding_model.specs.forwarding.Causes.{IsPath, IsWithheld, TellsCauses, cause, newest_number, path, verdicts}
+use Rattle.forwarding_model.specs.forwarding.Causes.{IsPath, IsWithheld, HaveCauses, cause, newest_number, path, verdicts}
 use Rattle.forwarding_model.specs.Receiver.{complaint}
 use Rattle.forwarding_laws.specs.forwarding.Restart.{BreaksAt, IsRestart}
 use Rattle.forwarding_laws.specs.forwarding.VerdictWords.{Says}
@@ -66,9 +66,9 @@ pub record ShowsCauses (n : ℕ) (wish : Wish) (events : List Happened) (past : 
   pub says : (since before : List Happened) (frame : Frame TemplateStructure) → events ≡ since ++ WholeFrame frame ∷ before
       → Says (standing wish before) frame.meaning (length frame.packets) (cause wish events frame.meaning.number)
   pub roots : (number : ℕ) → IsWithheld wish events number → IsPath (path (cause wish events) number)
-  pub steps : (number : ℕ) → TellsCauses (cause wish events) (path (cause wish events) number)
-  pub told : (number : ℕ) (verdict : Verdict)
-      → (answer past (Why n number) ≡ Told verdict) ↔ (CanBeAsked wish events number × (verdict ≡ cause wish events number))
+  pub steps : (number : ℕ) → HaveCauses (cause wish events) (path (cause wish events) number)
+  pub cause_answer : (number : ℕ) (verdict : Verdict)
+      → (answer past (Why n number) ≡ CauseIs verdict) ↔ (CanBeAsked wish events number × (verdict ≡ cause wish events number))
 
 pub record IsForwarded (id n : ℕ) (j : Joined) (past : List Call) : Type 0 where
   pub receivers : PleasesReceivers id n j past

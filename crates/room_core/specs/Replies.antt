@@ -1,7 +1,7 @@
 -- The room's answer to a call, by the calls that it accepted before, the newest
 -- first. Own rule. A refusal is the answer only if no refusal above it applies.
 use Rattle.std.specs.Prelude.{ℕ, ◌==◌, ◌||◌, nat_le, not, Bool, false, if◌then◌else◌, List, Option, None, Some, is_some, Result, Ok, Err}
-use Rattle.sfu_base.specs.Answer.{Answer, Done, Sent, Named, KeyIs, Told, Refused}
+use Rattle.sfu_base.specs.Answer.{Answer, Done, Sent, Named, KeyIs, CauseIs, Refused}
 use Rattle.sfu_base.specs.declared.call.Call.{Call}
 use Rattle.sfu_base.specs.declared.call.Call.TheVariants as call
 use Rattle.sfu_base.specs.declared.call.Kind.{Kind}
@@ -69,9 +69,9 @@ abbrev pub resend_answer : Kind → Subscriber → List (Event TemplateStructure
 resend_answer kind to events sequence =
     sent_or (resent (sent kind) to events sequence) (Refused (refusal.NotKept (oldest_number (sent kind) to events) (next_number (sent kind) to events)))
 
-abbrev pub told : Result Verdict Refusal → Answer
-told (Ok verdict) = Told verdict
-told (Err why) = Refused why
+abbrev pub cause_answer : Result Verdict Refusal → Answer
+cause_answer (Ok verdict) = CauseIs verdict
+cause_answer (Err why) = Refused why
 
 abbrev pub plain_refused : Kind → Answer
 plain_refused Plain = Refused refusal.Plain
@@ -99,4 +99,4 @@ answer past (call.Resend subscriber sequence) =
 answer past (call.Missing track) = of_track (published track past) (λ p. Named (missing_sequences (order_at track past)))
 answer past (call.KeyWanted track) = of_track (published track past) (λ p. KeyIs (key_wanted_on p.kind track past))
 answer past (call.Plead subscriber) = of_subscriber (joined subscriber past) (λ j. plead_answer (published j.track past))
-answer past (call.Why subscriber number) = of_subscriber (joined subscriber past) (λ j. told (judged (verdicts_of subscriber j past) number))
+answer past (call.Why subscriber number) = of_subscriber (joined subscriber past) (λ j. cause_answer (judged (verdicts_of subscriber j past) number))

@@ -13,7 +13,7 @@ use Rattle.forwarding_model.specs.forwarding.Outgoing.{Sender, send_marked}
 use Rattle.dd_structure.specs.TemplateStructure.{TemplateStructure}
 use Rattle.target_selector.specs.Masks.{mask_for}
 use Rattle.packet_format.specs.Remasked.{remasked_packet}
-use Rattle.packet_format.specs.Telling.{tells}
+use Rattle.packet_format.specs.CarriedMask.{carries_mask}
 
 -- ---- the first packet
 
@@ -23,9 +23,9 @@ opens f (Open target opened) = opened == f.number
 opens f (Closed reason) = false
 
 -- the first packet's descriptor carries a structure or a mask
-abbrev pub tells_first : ℕ → List Packet → Bool
-tells_first id [] = false
-tells_first id (packet ∷ rest) = tells id packet.rest
+abbrev pub carries_mask_first : ℕ → List Packet → Bool
+carries_mask_first id [] = false
+carries_mask_first id (packet ∷ rest) = carries_mask id packet.rest
 
 -- only the first packet gets another mask
 abbrev pub remasked_first : ℕ → Option TemplateStructure → ℕ → List Packet → List Packet
@@ -40,7 +40,7 @@ unfoldable pub layered_sent : ℕ → Sender TemplateStructure
 layered_sent id frame target =
     send_marked (record frame {
       packets =
-          if opens frame.meaning target || tells_first id frame.packets
+          if opens frame.meaning target || carries_mask_first id frame.packets
           then remasked_first id (Some frame.structure) (mask_for frame.meaning (open_target target)) frame.packets
           else frame.packets;
     }) target

@@ -20,9 +20,9 @@ use Rattle.room_core.specs.Live.{Published, hold_of, kind_of, published}
 use Rattle.room_core.specs.TrackHistory.{entries_of, order_at}
 
 -- the result of a query for a live track; for any other number the refusal
-abbrev pub told_of_track : {X : Type 0} → Option Published → X → Result X Refusal
-told_of_track None told = Err NoTrack
-told_of_track (Some p) told = Ok told
+abbrev pub ok_of_track : {X : Type 0} → Option Published → X → Result X Refusal
+ok_of_track None reported = Err NoTrack
+ok_of_track (Some p) reported = Ok reported
 
 abbrev pub due_at : ℕ → List Call → Option ℕ
 due_at track past = due_of (hold_of track past) (order_at track past)
@@ -36,7 +36,7 @@ abbrev pub newest_frame_at : ℕ → List Call → Option ℕ
 newest_frame_at track past = option_map number_of (first_of (frames_of (kind_of track past) (items_of (entries_of track past))))
 
 abbrev pub IsDueOf : List Entry → ℕ → Result (Option ℕ) Refusal → Type 0
-IsDueOf history track result = result ≡ told_of_track (published track (accepted history)) (due_at track (accepted history))
+IsDueOf history track result = result ≡ ok_of_track (published track (accepted history)) (due_at track (accepted history))
 
 abbrev pub IsNewestFrameOf : List Entry → ℕ → Result (Option ℕ) Refusal → Type 0
-IsNewestFrameOf history track result = result ≡ told_of_track (published track (accepted history)) (newest_frame_at track (accepted history))
+IsNewestFrameOf history track result = result ≡ ok_of_track (published track (accepted history)) (newest_frame_at track (accepted history))

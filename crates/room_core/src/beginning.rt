@@ -35,8 +35,8 @@ impl Content {
         }
     }
 
-    /// Allocates the memory for a new track: the pipeline, the frame cache and the table entry. Returns the new track, or the reason of the refusal.
-    /// Returns `NoMemory` if memory runs out. This method and the next three aren't inlined, so that other calls need no stack for a track or a
+    /// Allocates the memory for a new track: the pipeline, the frame cache and the table entry. Returns the new track, or the reason for the refusal.
+    /// Returns `NoMemory` if memory runs out. This method and the next three aren't inlined. Other calls therefore need no stack space for a track or a
     /// subscriber.
     #[inline(never)]
     pub fn prepare_track(
@@ -73,8 +73,8 @@ impl Content {
         }
     }
 
-    /// Allocates the memory for a new subscriber: the feed, the table entry, and buffers in the track's store. Returns the new subscriber, or the
-    /// reason of the refusal. Returns `NoMemory` if memory runs out.
+    /// Allocates the memory for a new subscriber: the feed, the table entry, and buffers in the track's store. Returns the new subscriber, or the reason
+    /// for the refusal. Returns `NoMemory` if memory runs out.
     #[inline(never)]
     pub fn prepare_subscriber(
         &mut self,
@@ -113,7 +113,7 @@ impl Content {
         }
     }
 
-    /// Adds the prepared track to the room, or replies with the refusal.
+    /// Adds the prepared track to the room. If `ready` is a refusal, replies with this refusal.
     #[inline(never)]
     pub fn publish(&mut self, track: u32, ready: Result<LiveTrack, Refusal>) -> Reply
         requires { (kind : Kind) × (ssrc : ℕ) × (hold : ℕ) × IsTrackReady self.old track kind ssrc hold ready }
@@ -135,7 +135,7 @@ impl Content {
         }
     }
 
-    /// Adds the prepared subscriber to the room, or replies with the refusal.
+    /// Adds the prepared subscriber to the room. If `ready` is a refusal, replies with this refusal.
     #[inline(never)]
     pub fn join(&mut self, subscriber: u32, ready: Result<LiveSubscriber, Refusal>) -> Reply
         requires { (track : ℕ) × (ssrc : ℕ) × (first : ℕ) × (wish : Wish) × IsSubscriberReady self.old subscriber track ssrc first wish ready }

@@ -4,11 +4,11 @@ ghost use Rattle.sfu_base.specs.declared.call.Call.{Call};
 ghost use Rattle.room_core.specs.Content.{IsAfter};
 ghost use Rattle.room_core.specs.Counts.{counted_frame, greatest_count, no_counts, no_frames};
 ghost use Rattle.room_core.specs.CountsOf.{AreSubscriberCounts, AreTrackCounts, HasCounts, subscriber_counts_for, track_counts_at};
-ghost use Rattle.room_core.specs.CurrentTargets.{told_of};
+ghost use Rattle.room_core.specs.CurrentTargets.{ok_of_subscriber};
 ghost use Rattle.room_core.specs.History.{Entry};
 ghost use Rattle.room_core.specs.Live.{joined, published};
 ghost use Rattle.room_core.specs.Serves.{Stands};
-ghost use Rattle.room_core.specs.TrackQuestions.{told_of_track};
+ghost use Rattle.room_core.specs.TrackQuestions.{ok_of_track};
 
 use crate::content::Content;
 use crate::feed::Feed;
@@ -17,8 +17,8 @@ use crate::room::Room;
 use sfu_base::{Refusal, Verdict};
 use track_core::TrackCounts;
 
-/// The counters of a subscriber since its join. The first seven counters count frames by their verdicts, as [`Room::why`] returns them; they are 0 on
-/// a plain track. A counter that reaches 2^64 - 1 stays there. Own rule.
+/// The counters of a subscriber since its join. The first seven counters count frames by the verdict that [`Room::why`] returns. On a plain track, these
+/// seven are 0. A counter that reaches 2^64 - 1 stays there. Own rule.
 #[derive(Clone, Copy, Debug, PartialEq, Eq)]
 pub struct SubscriberCounts {
     /// The number of frames that were forwarded ([`Verdict::Passed`]).
@@ -35,9 +35,9 @@ pub struct SubscriberCounts {
     pub link: u64,
     /// The number of frames that were withheld because no target was open ([`Verdict::Unopened`]).
     pub unopened: u64,
-    /// The number of packets that were queued, including the packets that have been taken since.
+    /// The number of packets that were ever queued. Packets that were taken from the queue count too.
     pub queued: u64,
-    /// The number of packets that were taken.
+    /// The number of packets that were taken from the queue.
     pub taken: u64,
     /// The number of retransmitted packets.
     pub resent: u64,
@@ -146,7 +146,7 @@ impl<R: Recorder> Room<R> {
 impl Content {
     /// Returns the subscriber's counters.
     pub fn subscriber_counts(&self, subscriber: u32) -> Result<SubscriberCounts, Refusal>
-        ensures { (past : List Call) → IsAfter self.now past → result ≡ told_of (joined subscriber past) (λ j. subscriber_counts_for subscriber j past) }
+        ensures { (past : List Call) → IsAfter self.now past → result ≡ ok_of_subscriber (joined subscriber past) (λ j. subscriber_counts_for subscriber j past) }
     {
         match self.subscribers.get(&subscriber) {
             Some(known) => Ok(known.feed.counts(known.resent)),
@@ -156,7 +156,7 @@ impl Content {
 
     /// Returns the track's counters.
     pub fn track_counts(&self, track: u32) -> Result<TrackCounts, Refusal>
-        ensures { (past : List Call) → IsAfter self.now past → result ≡ told_of_track (published track past) (track_counts_at track past) }
+        ensures { (past : List Call) → IsAfter self.now past → result ≡ ok_of_track (published track past) (track_counts_at track past) }
     {
         match self.tracks.get(&track) {
             Some(known) => Ok(known.pipeline.counts()),

@@ -2,7 +2,7 @@
 ghost use Rattle.std.specs.Prelude.{◌≡◌, List};
 ghost use Rattle.sfu_base.specs.declared.call.Call.{Call};
 ghost use Rattle.room_core.specs.Content.{IsAfter};
-ghost use Rattle.room_core.specs.CurrentTargets.{IsReachedBy, IsTargetOf, reaches_for, target_for, told_of};
+ghost use Rattle.room_core.specs.CurrentTargets.{IsReachedBy, IsTargetOf, reaches_for, target_for, ok_of_subscriber};
 ghost use Rattle.room_core.specs.Follows.{HasReached, HasTarget};
 ghost use Rattle.room_core.specs.History.{Entry};
 ghost use Rattle.room_core.specs.Live.{joined};
@@ -19,15 +19,15 @@ use sfu_base::{Refusal, Wish};
 pub struct DecodeTarget {
     /// The index of the target in the publisher's structure, 0 to 31.
     pub index: u8,
-    /// The highest spatial layer and the highest temporal layer of the target, by the structure of the newest frame. `None` if no template of this
+    /// The target's highest spatial layer and highest temporal layer. They are read from the structure of the newest frame. `None` if no template of this
     /// structure is present in the target.
     pub layers: Option<Wish>,
 }
 
 impl<R: Recorder> Room<R> {
-    /// Returns the subscriber's current decode target, which is the target after the newest frame. Returns `None` on a plain track, before the first
-    /// key frame with which the subscriber can begin, and after the target's chain has broken, until a frame opens a target again. If the track has
-    /// ended, returns the target after the last frame. This query adds no entry to the history, changes nothing, and allocates no memory.
+    /// Returns the subscriber's current decode target, which is the target after the newest frame. Returns `None` on a plain track. Returns `None` before
+    /// the first key frame with which the subscriber can begin. After the target's chain has broken, returns `None` until a frame opens a target again. If
+    /// the track has ended, returns the target after the last frame. This query adds no entry to the history, changes nothing, and allocates no memory.
     /// `NoSubscriber`: no live subscriber has the number. Own rule.
     pub fn target_of(&self, subscriber: u32) -> Result<Option<DecodeTarget>, Refusal>
         ensures target { (history : List Entry) → Stands R.noted self.now history → IsTargetOf history subscriber result }
@@ -35,10 +35,10 @@ impl<R: Recorder> Room<R> {
         self.content.target_of(subscriber)
     }
 
-    /// Returns whether the subscriber's current decode target is the best target that the current wish allows at the newest frame. Returns false if
-    /// there is no current target, and so always on a plain track. A higher wish is mostly reached only at a key frame. So call `plead` if the result
-    /// is false. If the track has ended, the newest frame is the last one. This query adds no entry to the history, changes nothing, and allocates no
-    /// memory. `NoSubscriber`: no live subscriber has the number. Own rule.
+    /// Returns whether the subscriber's current decode target is the best target that the current wish allows at the newest frame. Returns false if there
+    /// is no current target. On a plain track, there is never a current target. A higher wish is mostly reached only at a key frame. If the result is
+    /// false, call `plead`. If the track has ended, the newest frame is the last one. This query adds no entry to the history, changes nothing, and
+    /// allocates no memory. `NoSubscriber`: no live subscriber has the number. Own rule.
     pub fn reaches_wish(&self, subscriber: u32) -> Result<bool, Refusal>
         ensures reaches { (history : List Entry) → Stands R.noted self.now history → IsReachedBy history subscriber result }
     {
@@ -49,7 +49,7 @@ impl<R: Recorder> Room<R> {
 impl Content {
     /// Returns the subscriber's current decode target.
     pub fn target_of(&self, subscriber: u32) -> Result<Option<DecodeTarget>, Refusal>
-        ensures { (past : List Call) → IsAfter self.now past → result ≡ told_of (joined subscriber past) (λ j. target_for subscriber j past) }
+        ensures { (past : List Call) → IsAfter self.now past → result ≡ ok_of_subscriber (joined subscriber past) (λ j. target_for subscriber j past) }
     {
         match self.subscribers.get(&subscriber) {
             Some(known) => Ok(known.feed.sent_target()),
@@ -59,7 +59,7 @@ impl Content {
 
     /// Returns whether the subscriber's current decode target is the best target that the wish allows.
     pub fn reaches_wish(&self, subscriber: u32) -> Result<bool, Refusal>
-        ensures { (past : List Call) → IsAfter self.now past → result ≡ told_of (joined subscriber past) (λ j. reaches_for subscriber j past) }
+        ensures { (past : List Call) → IsAfter self.now past → result ≡ ok_of_subscriber (joined subscriber past) (λ j. reaches_for subscriber j past) }
     {
         match self.subscribers.get(&subscriber) {
             Some(known) => Ok(known.feed.reaches_wish()),
@@ -76,7 +76,7 @@ impl Feed {
         match self.selector.target() {
             Some(index) => Some(DecodeTarget {
                 index,
-                layers: self.selector.layers(),
+                layers: self.selector.target_layers(),
             }),
             None => None,
         }

@@ -1,7 +1,7 @@
 // The sending state of one subscriber.
 ghost use Rattle.std.specs.Prelude.{◌≡◌, ◌≤◌, ◌-◌, ◌||◌, ◌∷◌, [], false, true, IfOk, OnErr, OnOk, length, min};
 ghost use Rattle.rtp_packet.specs.Faults.{first_fault};
-ghost use Rattle.room_core.specs.Follows.{FollowsAim, FollowsFrame, FollowsPacket, FollowsTake, HasNoTarget, IsFed, IsFresh, Resends, Tells, tells_by};
+ghost use Rattle.room_core.specs.Follows.{FollowsAim, FollowsFrame, FollowsPacket, FollowsTake, HasNoTarget, IsFed, IsFresh, Resends, IsCauseOf, carries_mask_by};
 ghost use Rattle.room_core.specs.Sendable.{IsSendable};
 ghost use Rattle.frame_cache.specs.Capacity.{capacity_for};
 ghost use Rattle.frame_cache.specs.Sharing.{AreFirst};
@@ -17,8 +17,8 @@ use std::alloc::Global;
 use target_selector::{FrameOffer, MOST_QUEUED, Selector};
 use track_core::Track;
 
-/// The sending state of one subscriber. It has the kind of the subscriber's track, the selector of frames, the packets in the queue and those kept
-/// for retransmission, the verdicts on frames, and the counters. All memory of a feed is allocated when the feed is created.
+/// The sending state of one subscriber. The feed has the kind of the subscriber's track, the frame selector, the queued packets, the packets kept for
+/// retransmission, the verdicts on frames, and the counters. All memory of a feed is allocated when the feed is created.
 #[derive(Drop)]
 pub struct Feed {
     pub kind: Kind,
@@ -56,8 +56,8 @@ impl Feed {
         self.selector.aim(wish);
     }
 
-    /// Queues the next packet of a plain track if fewer than 512 packets are queued, and otherwise counts the packet as left out. With `cache`, the
-    /// track's subscribers can share one copy of the packet.
+    /// Queues the next packet of a plain track if fewer than 512 packets are queued. Otherwise counts the packet as left out. With `cache`, the track's
+    /// subscribers can share one copy of the packet.
     pub fn pass_packet(&mut self, packet: &[u8], cache: &mut FrameCache)
         requires reads { first_fault packet.now ≡ None }
         requires fits { length packet.now ≤ 1500 }
@@ -72,18 +72,18 @@ impl Feed {
         }
     }
 
-    /// Decides whether the newest complete frame of a layered track is forwarded to the subscriber, and queues the frame's packets if it is. The
-    /// first packet is sent with the mask of the subscriber's targets in two cases: if `tells` is true (the packet carries a structure or a mask), or
-    /// if the frame opens the target. With `cache`, the track's subscribers can share copies of the packets.
+    /// Decides whether the newest complete frame of a layered track is forwarded to the subscriber. If the frame is forwarded, queues its packets. The
+    /// first packet is sent with the mask of the subscriber's targets in two cases: if `carries_mask` is true (the packet carries a structure or a mask),
+    /// or if the frame opens the target. With `cache`, the track's subscribers can share copies of the packets.
     pub fn pass_frame(
         &mut self,
         track: &Track,
         offer: &FrameOffer<'_>,
-        tells: bool,
+        carries_mask: bool,
         cache: &mut FrameCache,
     )
         requires count { offer.now.packets ≡ length track.now.packets }
-        requires tells { tells ≡ tells_by track.now.layers track.now.packets }
+        requires carries_mask { carries_mask ≡ carries_mask_by track.now.layers track.now.packets }
         requires of_frame { IsOfFrame track.now.layers track.now.packets cache.old }
         ensures follows { FollowsFrame self.old self.new offer.now.frame track.now }
         ensures of_frame { IsOfFrame track.now.layers track.now.packets cache.new }
@@ -95,7 +95,7 @@ impl Feed {
             self.causes.write(number, Verdict::Passed);
             self.counts.frames.count(Verdict::Passed);
             let is_top = self.selector.marks_last();
-            if is_told(self.selector.opened(), tells) {
+            if is_remasked(self.selector.opened(), carries_mask) {
                 let mask = offer.mask_for(self.selector.target());
                 push_remasked(&mut self.ring, cache, track, mask, is_top);
             } else {
@@ -125,7 +125,7 @@ impl Feed {
     }
 
     /// Ends the feed, and releases its shared packets to `cache`. `left` is the number of subscribers that remain on the track.
-    pub fn give_back(self, cache: &mut FrameCache, left: usize)
+    pub fn release(self, cache: &mut FrameCache, left: usize)
         ensures all { cache.new.store.all ≤ cache.old.store.all }
         ensures kept { capacity_for left ≤ cache.old.store.all → capacity_for left ≤ cache.new.store.all }
         ensures freed { cache.new.store.all ≤ cache.old.store.all - min cache.old.store.free (cache.old.store.all - capacity_for left) }
@@ -141,16 +141,16 @@ impl Feed {
         self.selector.target().is_none()
     }
 
-    /// Returns the reason why the frame with this unwrapped number was or wasn't forwarded. `Ahead`: the number is above the newest frame's, or no
-    /// frame has come since the join. `TooOld`: the number is 4,096 or more below the newest frame's.
+    /// Returns the reason why the frame with this unwrapped number was or wasn't forwarded. Returns `Ahead` if the number is above the number of the
+    /// newest frame, or if no frame has come since the join. Returns `TooOld` if the number is 4,096 or more below the number of the newest frame.
     pub fn why(&self, number: u64) -> Result<Verdict, Refusal>
-        ensures tells { Tells self.now number result }
+        ensures is_cause { IsCauseOf self.now number result }
         ensures fed { IsFed result }
     {
         self.causes.verdict(number)
     }
 
-    /// Replaces the contents of `out` with the packet that was taken with this sequence number. `NotKept`: none of the last 1,024 taken packets has
+    /// Replaces the contents of `out` with the taken packet that has this sequence number. Returns `NotKept` if none of the last 1,024 taken packets has
     /// this sequence number.
     pub fn resend(&self, seq: u16, out: &mut PacketBuf) -> Result<(), Refusal>
         ensures resends { Resends self.now seq result out.old out.new }
@@ -163,8 +163,8 @@ impl Feed {
 }
 
 // Returns whether the first packet of a forwarded frame is sent with the mask of the subscriber's targets.
-fn is_told(opened: bool, tells: bool) -> bool
-    ensures { result ≡ (opened || tells) }
+fn is_remasked(opened: bool, carries_mask: bool) -> bool
+    ensures { result ≡ (opened || carries_mask) }
 {
-    opened || tells
+    opened || carries_mask
 }

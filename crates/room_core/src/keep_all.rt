@@ -9,8 +9,8 @@ use sfu_base::{Call, NoMemory};
 use std::alloc::Global;
 use std::marker::Model;
 
-/// A recorder that stores the calls of a room and their seats, the oldest first. A call that runs out of memory isn't stored. Contracts see the list
-/// of stored calls and seats.
+/// A recorder that stores the calls on a room, each with its seat. The oldest call comes first. A call that runs out of memory isn't stored. Contracts see
+/// the recorder as the list of the stored calls with their seats.
 #[derive(Drop)]
 pub struct KeepAll {
     notes: Vec<Note>,

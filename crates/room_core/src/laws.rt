@@ -1,8 +1,8 @@
 // Laws that follow from several definitions of this crate.
 ghost use Rattle.room_core.specs.Openings.{FramesOpenTheirTargets};
 
-/// This law states that two rules agree about each forwarded frame: the rule for sending (`opens`) and the rule for selecting frames. By both rules,
-/// the same frames open their target.
+/// A law about each forwarded frame: the frame opens its target by the rule for sending (`opens`) if and only if it opens its target by the rule for
+/// selecting frames.
 pub fn frames_open_their_targets()
     ensures { FramesOpenTheirTargets }
 {}

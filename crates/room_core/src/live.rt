@@ -9,9 +9,9 @@ use place_set::PlaceSet;
 use sfu_base::Kind;
 use track_core::Track;
 
-/// A live track. `pleaded` is true while a key frame request is pending. `frame_cache` is the cache of the current frame, and `places` has the places
-/// of the track's subscribers in the table of subscribers. Between calls, no item of the pipeline waits. The large parts are on the heap, so that a
-/// room is small, because a lock moves the room twice per turn.
+/// A live track. `pleaded` is true while a key frame request is pending. `frame_cache` is the cache of the current frame. `places` has the places of the
+/// track's subscribers in the table of subscribers. Between calls, no item waits in the pipeline. The large parts are on the heap. This keeps the room
+/// small, because a lock moves the room twice per turn.
 #[derive(Drop)]
 pub struct LiveTrack {
     pub kind: Kind,
@@ -22,8 +22,8 @@ pub struct LiveTrack {
     ghost idle: { pipeline.value.window.waiting ≡ [] },
 }
 
-/// A live subscriber. `track` is the number of the subscriber's track, and `resent` is the number of packets that were retransmitted to the
-/// subscriber. The feed is on the heap, so that the table's entries are small, because a leave moves one entry, and `count_on` reads all entries.
+/// A live subscriber. `track` is the number of the subscriber's track, and `resent` is the number of packets that were retransmitted to the subscriber.
+/// The feed is on the heap. This keeps the entries of the table small, because a leave moves one entry, and `count_on` reads all entries.
 #[derive(Drop)]
 pub struct LiveSubscriber {
     pub track: u32,

@@ -4,7 +4,7 @@ ghost use Rattle.indexmap.specs.IndexMap.{get, index_map_len};
 ghost use Rattle.rtp_packet.specs.Faults.{first_fault};
 ghost use Rattle.sfu_base.specs.Frame.{IsValid};
 ghost use Rattle.track_core.specs.Track.{with_meaning};
-ghost use Rattle.room_core.specs.Follows.{FollowsFrame, FollowsPacket, tells_by};
+ghost use Rattle.room_core.specs.Follows.{FollowsFrame, FollowsPacket, carries_mask_by};
 ghost use Rattle.room_core.specs.Indexed.{HasPlaces, tracks_of};
 ghost use Rattle.room_core.specs.Passing.{IsPassed, PassedTo, WaitsIn, WaitsOne, WorkedIf, WorkedOff};
 ghost use Rattle.room_core.specs.Stepping.{IsMadeValid, Steps};
@@ -12,7 +12,7 @@ ghost use Rattle.frame_cache.specs.Sharing.{AreFirst};
 ghost use Rattle.room_core.specs.FrameCache.{IsOfFrame};
 
 use crate::live::LiveSubscriber;
-use crate::sending::first_tells;
+use crate::sending::first_carries_mask;
 use frame_cache::FrameCache;
 use indexmap::IndexMap;
 use place_set::PlaceSet;
@@ -20,8 +20,8 @@ use sfu_base::FrameMeaning;
 use target_selector::FrameOffer;
 use track_core::{Advance, Track};
 
-/// Processes all waiting items of a track, and offers the resulting packets or frames to each of the track's subscribers. A complete key frame ends a
-/// pending key frame request.
+/// Processes all waiting items of a track. An item is a packet, or a gap that was given up. Offers the resulting packets (plain track) or complete frames
+/// (layered track) to each of the track's subscribers. A complete key frame ends a pending key frame request.
 pub fn work_off(
     pipeline: &mut Track,
     pleaded: &mut bool,
@@ -140,12 +140,12 @@ fn pass_frame_to_all(
     ensures tracks { tracks_of subscribers.new.entries ≡ tracks_of subscribers.old.entries }
 {
     let offer = FrameOffer::new(frame, track.count());
-    let tells = first_tells(track);
+    let carries_mask = first_carries_mask(track);
     cache.forget();
     let mut from = 0;
     while let Some(place) = places.first_from(from) {
         if let Some(subscriber) = subscribers.get_index_mut(place) {
-            pass_frame(subscriber, number, track, &offer, tells, cache);
+            pass_frame(subscriber, number, track, &offer, carries_mask, cache);
         }
         from = place + 1;
     }
@@ -157,21 +157,23 @@ fn pass_frame(
     number: u32,
     track: &Track,
     offer: &FrameOffer<'_>,
-    tells: bool,
+    carries_mask: bool,
     cache: &mut FrameCache,
 )
     requires count { offer.now.packets ≡ length track.now.packets }
-    requires tells { tells ≡ tells_by track.now.layers track.now.packets }
+    requires carries_mask { carries_mask ≡ carries_mask_by track.now.layers track.now.packets }
     requires of_frame { IsOfFrame track.now.layers track.now.packets cache.old }
     ensures passed { IsPassed (λ old new. FollowsFrame old new offer.now.frame track.now) number subscriber.old subscriber.new }
     ensures of_frame { IsOfFrame track.now.layers track.now.packets cache.new }
 {
     if subscriber.track == number {
-        subscriber.feed.pass_frame(track, offer, tells, cache);
+        subscriber
+            .feed
+            .pass_frame(track, offer, carries_mask, cache);
     }
 }
 
-/// Returns whether at least one subscriber of a track has no current target.
+/// Returns whether at least one subscriber of a track has no current decode target.
 pub fn waits(subscribers: &IndexMap<u32, LiveSubscriber>, places: &PlaceSet, number: u32) -> bool
     requires { HasPlaces places.now number (tracks_of subscribers.now.entries) }
     ensures { WaitsIn result number (get nat_eq subscribers.now) }

@@ -14,10 +14,10 @@ use crate::room::Room;
 use indexmap::IndexMap;
 
 impl<R: Recorder> Room<R> {
-    /// Writes the numbers of the track's subscribers that have queued packets to the start of `numbers`, each number once and in no particular order.
-    /// Stops when `numbers` is full. Returns how many numbers it wrote. If the result is below the length of `numbers`, no number is left out. A
-    /// subscriber of a track that has ended is listed until the subscriber leaves. This query adds no entry to the history, changes nothing, and
-    /// allocates no memory. Own rule.
+    /// Lists the track's subscribers that have queued packets: writes these subscribers' numbers to the start of `numbers`. Each number is written once,
+    /// and the order is arbitrary. Stops when `numbers` is full. Returns how many numbers it wrote. If the result is below the length of `numbers`, all
+    /// such subscribers are listed. After the track has ended, its subscribers with queued packets are still listed until they leave. This query isn't
+    /// recorded, doesn't change the room, and allocates no memory. Own rule.
     pub fn ready(&self, track: u32, numbers: &mut [u32]) -> usize
         ensures ready { (history : List Entry) → Stands R.noted self.now history
             → AreReady track (length numbers.old) (accepted history) (take result numbers.new) }
@@ -30,8 +30,8 @@ impl<R: Recorder> Room<R> {
 }
 
 impl Content {
-    /// Writes the numbers of the track's subscribers that have queued packets to `numbers`, until `numbers` is full. Returns how many numbers it
-    /// wrote.
+    /// Lists the track's subscribers that have queued packets: writes these subscribers' numbers to the start of `numbers`. Stops when `numbers` is full.
+    /// Returns how many numbers it wrote.
     pub fn ready(&self, track: u32, numbers: &mut [u32]) -> usize
         ensures ready { (past : List Call) → IsAfter self.now past → AreReady track (length numbers.old) past (take result numbers.new) }
         ensures within { result ≤ length numbers.new }

@@ -4,7 +4,8 @@ ghost use Rattle.room_core.specs.Noted.{Noted, Notes};
 
 use sfu_base::{Call, NoMemory};
 
-/// A recorder of the calls on a room and of their seats. A recorder stores these notes, or it stores nothing. Own rule.
+/// Records the calls on a room, each with the number of the seat that made the call. Some recorders store these notes, and others store nothing. Own
+/// rule.
 pub trait Recorder: Drop {
     /// Whether [`Recorder::note`] can run out of memory.
     ghost may_refuse: { Self → Bool };
@@ -12,7 +13,7 @@ pub trait Recorder: Drop {
     /// The seats and calls noted so far, the oldest first. `None` if the recorder doesn't make them visible to contracts.
     ghost noted: { Self → Option (List Noted) };
 
-    /// Appends a call with its seat to the notes. Returns `NoMemory` if memory runs out; the earlier notes are then unchanged.
+    /// Appends a call and its seat to the notes. If memory runs out, returns `NoMemory` and leaves the earlier notes unchanged.
     fn note(&mut self, seat: u32, call: &Call) -> Result<(), NoMemory>
         ensures ok { OnOk result (Notes (noted self.old) (noted self.new) seat call.now) }
         ensures err { OnErr result (noted self.new ≡ noted self.old) }
@@ -20,7 +21,7 @@ pub trait Recorder: Drop {
         ensures same { may_refuse self.new ≡ may_refuse self.old };
 }
 
-/// A recorder that stores nothing and never refuses.
+/// A recorder that stores nothing. Its `note` never returns an error.
 #[derive(Drop)]
 pub struct KeepNone;
 

@@ -21,7 +21,7 @@ const PADDING_ID: u8 = 0;
 const LAST_ID: u8 = 15;
 
 impl Content {
-    /// Returns the first refusal that applies to publishing this track, or `None` if no refusal applies.
+    /// Returns the first refusal that applies if this track is published now, or `None` if no refusal applies.
     pub fn publish_refusal(&self, track: u32, kind: Kind) -> Option<Refusal>
         ensures fed { IfSome result (λ why. is_memory why ≡ false) }
         ensures refusal { result ≡ refusal_to_publish self.now track kind }
@@ -41,7 +41,7 @@ impl Content {
         None
     }
 
-    /// Returns the first refusal that applies to joining this subscriber, or `None` if no refusal applies.
+    /// Returns the first refusal that applies if this subscriber joins the track now, or `None` if no refusal applies.
     pub fn join_refusal(&self, subscriber: u32, track: u32) -> Option<Refusal>
         ensures fed { IfSome result (λ why. is_memory why ≡ false) }
         ensures refusal { result ≡ refusal_to_join self.now subscriber track }

@@ -11,8 +11,9 @@ use std::alloc::Global;
 /// The packets of a layered track are assembled into frames (RTP Payload Format For AV1, Appendix A). Each subscriber gets the frames of the best
 /// decode target that the subscriber's wish allows. The packets of a plain track are forwarded in order.
 ///
-/// A refused call returns the first refusal that applies, and changes nothing except what the recorder stores. If the recorder never refuses, only
-/// `publish` and `join` can run out of memory. These rules are own rules.
+/// A refused call changes nothing except what the recorder stores. Unless the recorder runs out of memory, the reply is the first refusal that applies,
+/// in the order of the method's list. If the recorder can't run out of memory, only `publish` and `join` can. These rules are the project's own, and are
+/// in no standard.
 #[derive(Drop)]
 pub struct Room<R: Recorder> {
     alloc: Global,
@@ -41,9 +42,9 @@ impl<R: Recorder> Room<R> {
         }
     }
 
-    /// Serves one call from a seat. Each method from `publish` to `why` does the same for one kind of call. If the reply is `Packet`, the packet's
-    /// bytes are in `scratch.packet`. If the reply is `Names`, the sequence numbers are in `scratch.names`. Any other reply leaves the scratch
-    /// unchanged.
+    /// Serves one call. `seat` is the number of the caller. Each of the methods from `publish` to `why` serves one kind of call in the same way. If the
+    /// reply is `Packet`, the packet's bytes are in `scratch.packet`. If the reply is `Names`, the sequence numbers are in `scratch.names`. Any other
+    /// reply leaves the scratch unchanged.
     pub fn serve(&mut self, seat: u32, call: &Call, scratch: &mut Scratch) -> Reply
         ensures { ServesInto R.noted R.may_refuse self.old self.new seat call.now result scratch.old scratch.new }
     {
@@ -81,9 +82,9 @@ impl<R: Recorder> Room<R> {
         }
     }
 
-    /// Begins a track, as [`Call::Publish`] does. `NumberUsed`: the number isn't above the highest number of any earlier track, or the number is 0.
-    /// `TooMany`: 64 tracks are live already. `BadExtensionId`: the id of a layered track's header extension element is 0 or 15. `NoMemory`: memory
-    /// ran out, and no other refusal applies.
+    /// Begins a track, as [`Call::Publish`] does. `NumberUsed`: the number is 0, or an earlier track had this number or a higher one. `TooMany`: 64
+    /// tracks are live already. `BadExtensionId`: the id of a layered track's header extension element is 0 or 15. `NoMemory`: memory ran out. No other
+    /// refusal applies then, unless the recorder ran out of memory.
     #[inline(never)]
     pub fn publish(&mut self, seat: u32, track: u32, kind: Kind, ssrc: u32, hold: u32) -> Reply
         ensures { DoesAsServe R.noted R.may_refuse self.old self.new seat (call.Publish track kind ssrc hold) result }
@@ -118,10 +119,10 @@ impl<R: Recorder> Room<R> {
         }
     }
 
-    /// Adds a packet that arrives at `moment` to a track, as [`Call::Packet`] does. The recorder gets a copy of the packet. `NoTrack`: no live track
-    /// has the number. `TooBig`: the packet has more than 1,500 bytes. `Unreadable`: the bytes aren't an RTP packet. `WrongSsrc`: the packet's SSRC
-    /// isn't the track's. `Spent`: the packet's unwrapped sequence number is 2^46 or more. `Late`: the unwrapped number is below the lowest number
-    /// for which the track waits. `Repeat`: a packet with this number is buffered already.
+    /// Adds a packet to a track, as [`Call::Packet`] does. The packet arrived at the time `moment`. The recorder gets a copy of the packet. `NoTrack`: no
+    /// live track has the number. `TooBig`: the packet has more than 1,500 bytes. `Unreadable`: the bytes aren't an RTP packet. `WrongSsrc`: the packet's
+    /// SSRC isn't the track's. `Spent`: the packet's unwrapped sequence number is 2^46 or more. `Late`: the packet's unwrapped sequence number is below
+    /// the lowest number for which the track waits. `Repeat`: a packet with this sequence number is buffered already.
     pub fn packet(&mut self, seat: u32, track: u32, moment: u64, bytes: &PacketBuf) -> Reply
         ensures { DoesAsServe R.noted R.may_refuse self.old self.new seat (call.Packet track moment bytes.now) result }
     {
@@ -154,8 +155,8 @@ impl<R: Recorder> Room<R> {
         }
     }
 
-    /// Advances a track's time to `moment`, as [`Call::Tick`] does. A gap is given up when the packet after the gap has been buffered for the track's
-    /// hold time. `NoTrack`: no live track has the number.
+    /// Advances a track's time to `moment`, as [`Call::Tick`] does. If the packet after the lowest gap has been buffered for the track's hold time or
+    /// longer, the track gives up that gap. The same rule then applies to the next gap, and so on. `NoTrack`: no live track has the number.
     pub fn tick(&mut self, seat: u32, track: u32, moment: u64) -> Reply
         ensures { DoesAsServe R.noted R.may_refuse self.old self.new seat (call.Tick track moment) result }
     {
@@ -165,9 +166,9 @@ impl<R: Recorder> Room<R> {
         }
     }
 
-    /// Adds a subscriber to a track, as [`Call::Join`] does. `NoTrack`: no live track has the number. `NumberUsed`: the number isn't above the
-    /// highest number of any earlier subscriber, or the number is 0. `TooMany`: 256 subscribers are live already. `NoMemory`: memory ran out, and no
-    /// other refusal applies.
+    /// Adds a subscriber to a track, as [`Call::Join`] does. `NoTrack`: no live track has the number. `NumberUsed`: the number is 0, or an earlier
+    /// subscriber had this number or a higher one. `TooMany`: 256 subscribers are live already. `NoMemory`: memory ran out. No other refusal applies
+    /// then, unless the recorder ran out of memory.
     #[inline(never)]
     pub fn join(
         &mut self,
@@ -232,9 +233,9 @@ impl<R: Recorder> Room<R> {
         }
     }
 
-    /// Retransmits the packet that the subscriber took with this sequence number, as [`Call::Resend`] does (RFC 4585, section 6.2.1). Replies
-    /// `Packet`, and writes the packet's bytes to `scratch.packet`. `NoSubscriber`: no live subscriber has the number. `NotKept`: none of the
-    /// subscriber's last 1,024 taken packets has this sequence number.
+    /// Looks up a packet for retransmission (RFC 4585, section 6.2.1), as [`Call::Resend`] does. This is the packet with sequence number `seq` that the
+    /// subscriber took. Replies `Packet`, and writes the packet's bytes to `scratch.packet`. `NoSubscriber`: no live subscriber has the number.
+    /// `NotKept`: none of the subscriber's last 1,024 taken packets has this sequence number.
     #[inline(never)]
     pub fn resend(&mut self, seat: u32, subscriber: u32, seq: u16, scratch: &mut Scratch) -> Reply
         ensures { ServesInto R.noted R.may_refuse self.old self.new seat (call.Resend subscriber seq) result scratch.old scratch.new }
@@ -257,9 +258,9 @@ impl<R: Recorder> Room<R> {
         }
     }
 
-    /// Returns whether a key frame should be requested from a track's publisher, as [`Call::KeyWanted`] does. The result is true if the track is
-    /// layered and at least one of two conditions holds: a key frame request is pending, or a live subscriber of the track has no current target.
-    /// `NoTrack`: no live track has the number.
+    /// Returns whether a key frame should be requested from a track's publisher, as [`Call::KeyWanted`] does. On a layered track, the result is true if a
+    /// key frame request is pending, or if a live subscriber of the track has no current decode target. Otherwise it is false. `NoTrack`: no live track
+    /// has the number.
     #[inline(never)]
     pub fn key_wanted(&mut self, seat: u32, track: u32) -> Reply
         ensures { DoesAsServe R.noted R.may_refuse self.old self.new seat (call.KeyWanted track) result }
@@ -283,9 +284,9 @@ impl<R: Recorder> Room<R> {
         }
     }
 
-    /// Returns the reason why a frame was or wasn't forwarded to a subscriber, as [`Call::Why`] does. `NoSubscriber`: no live subscriber has the
-    /// number. `Ahead`: the frame number is above the newest frame's, or no frame has come since the join. `TooOld`: the frame number is 4,096 or
-    /// more below the newest frame's.
+    /// Returns the reason why a frame was or wasn't forwarded to a subscriber, as [`Call::Why`] does. `NoSubscriber`: no live subscriber has the number.
+    /// `Ahead`: the frame number is above the newest frame's number, or no frame has arrived since the subscriber joined. `TooOld`: the frame number is
+    /// 4,096 or more below the newest frame's number.
     #[inline(never)]
     pub fn why(&mut self, seat: u32, subscriber: u32, number: u64) -> Reply
         ensures { DoesAsServe R.noted R.may_refuse self.old self.new seat (call.Why subscriber number) result }
@@ -296,8 +297,8 @@ impl<R: Recorder> Room<R> {
         }
     }
 
-    /// Returns the kind of the track that the subscriber joined, even if this track has ended. This query adds no entry to the history, and allocates
-    /// no memory. `NoSubscriber`: no live subscriber has the number.
+    /// Returns the kind of the track that the subscriber joined, even if this track has ended. This query isn't recorded, and allocates no memory.
+    /// `NoSubscriber`: no live subscriber has the number.
     pub fn kind_of(&self, subscriber: u32) -> Result<Kind, Refusal>
         ensures kind { (history : List Entry) → Stands R.noted self.now history → IsKindOf history subscriber result }
     {
@@ -307,7 +308,7 @@ impl<R: Recorder> Room<R> {
         }
     }
 
-    /// Ends the room, and returns its recorder with everything that it recorded.
+    /// Ends the room. Returns the room's recorder, with everything that was recorded.
     pub fn into_recorder(self) -> R
         ensures kept { (history : List Entry) → Stands R.noted self history → IfSome (R.noted result) (λ notes. notes ≡ kept history) }
         ensures recorder { R.may_refuse result ≡ recorder_may_refuse R.may_refuse self }

@@ -78,7 +78,7 @@ impl Content {
         }
     }
 
-    /// Writes the packet that the subscriber took with this sequence number to `out`, if the packet is still kept for retransmission.
+    /// Finds the packet with this sequence number that the subscriber took before. If the packet is still kept for retransmission, writes it to `out`.
     pub fn resend(&mut self, subscriber: u32, seq: u16, out: &mut PacketBuf) -> Reply
         ensures does { (numbers : List ℕ) → Does self.old self.new (call.Resend subscriber seq) result out.new numbers }
         ensures fed { is_starved result ≡ false }
@@ -159,6 +159,6 @@ fn end_feed(
 {
     if let Some(known) = tracks.get_mut(&track) {
         known.places.take(place);
-        Box::into_inner(feed).give_back(&mut *known.frame_cache, left);
+        Box::into_inner(feed).release(&mut *known.frame_cache, left);
     }
 }

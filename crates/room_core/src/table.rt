@@ -5,8 +5,8 @@ ghost use Rattle.room_core.specs.Tables.{IsPlace};
 
 use indexmap::IndexMap;
 
-/// Returns the place of the entry with this number, or `None` if the table has no such entry. Tries the place `likely` and the next place before it
-/// searches, because mostly the same number comes again, or the numbers come in the order of the table.
+/// Returns the place (index) of the entry with this number, or `None` if the table has no such entry. Tries the place `likely` first, then the next
+/// place, and searches only if neither has the entry. Usually, a search has the same number as the search before it, or the next number in the table.
 pub fn place_of<V>(table: &IndexMap<u32, V>, likely: usize, number: u32) -> Option<usize>
     ensures { IsPlace number table.now.entries (get nat_eq table.now number) result }
 {

@@ -9,7 +9,7 @@ mod ready;
 mod sharing;
 
 use crate::{KeepAll, KeepNone, Room};
-use sfu_base::{Call, Kind, PacketBuf, Refusal, Reply, Scratch, SeqList, Verdict, Wish};
+use sfu_base::{Call, Kind, PacketBuf, Refusal, Reply, Scratch, Verdict, Wish};
 use std::mem::size_of;
 use std::process::Abort;
 use std::test::Fail;
@@ -44,7 +44,7 @@ const KEY: [u8; 47] = [
 ];
 
 // Returns `KEY` as it is sent: after the structure, it has the mask of these targets. Bit i of the mask is for target i.
-fn key_telling(mask: u8) -> [u8; 47] {
+fn key_remasking(mask: u8) -> [u8; 47] {
     let mut key = KEY;
     key[21] = 0xc0;
     key[42] = 0x40 | mask;
@@ -132,10 +132,7 @@ fn refused(why: Refusal) -> Reply {
 }
 
 fn scratch() -> Scratch {
-    Scratch {
-        packet: PacketBuf::new(),
-        names: SeqList::new(),
-    }
+    Scratch::new()
 }
 
 // Returns the packet that is sent for these bytes. It has this sequence number, this marker and SSRC 22222222.
@@ -333,7 +330,7 @@ fn each_subscriber_gets_its_own(rt: HostRuntime) {
         &mut room,
         &mut scratch,
         1,
-        &outgoing(&key_telling(15), 7, false),
+        &outgoing(&key_remasking(15), 7, false),
     );
     expect(
         &rt,
@@ -347,7 +344,7 @@ fn each_subscriber_gets_its_own(rt: HostRuntime) {
         &mut room,
         &mut scratch,
         2,
-        &outgoing(&key_telling(8), 7, true),
+        &outgoing(&key_remasking(8), 7, true),
     );
     serve(
         &rt,
@@ -404,7 +401,7 @@ fn a_full_queue_withholds_nothing_from_another(rt: HostRuntime) {
         &mut room,
         &mut scratch,
         2,
-        &outgoing(&key_telling(8), 7, true),
+        &outgoing(&key_remasking(8), 7, true),
     );
     // The first subscriber takes no packet, so its queue is full before frame 1024.
     for unit in 1u16..258 {
@@ -440,7 +437,7 @@ fn a_full_queue_withholds_nothing_from_another(rt: HostRuntime) {
         &mut room,
         &mut scratch,
         1,
-        &outgoing(&key_telling(15), 7, false),
+        &outgoing(&key_remasking(15), 7, false),
     );
 }
 

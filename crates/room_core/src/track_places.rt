@@ -8,7 +8,7 @@ ghost use Rattle.room_core.specs.declared.live.LiveTrack.{LiveTrack};
 use crate::live::{LiveSubscriber, LiveTrack};
 use indexmap::IndexMap;
 
-/// If the track is live, adds the place of a subscriber to the track's set of places.
+/// If the track is live, adds a subscriber's place to the track's set of places. A place is an index in the table of subscribers.
 pub fn put_place(tracks: &mut IndexMap<u32, LiveTrack>, track: u32, place: usize)
     requires { place < 256 }
     ensures changed { AreSameBut place (get nat_eq tracks.old) (get nat_eq tracks.new) }
@@ -20,7 +20,7 @@ pub fn put_place(tracks: &mut IndexMap<u32, LiveTrack>, track: u32, place: usize
     }
 }
 
-/// If the track is live, removes this place from the track's set of places. No subscriber of the track has this place any more.
+/// If the track is live, removes this place from the track's set of places. Call this when no subscriber of the track has this place any more.
 pub fn take_place(tracks: &mut IndexMap<u32, LiveTrack>, track: u32, place: usize)
     requires { place < 256 }
     ensures changed { AreSameBut place (get nat_eq tracks.old) (get nat_eq tracks.new) }
@@ -32,8 +32,9 @@ pub fn take_place(tracks: &mut IndexMap<u32, LiveTrack>, track: u32, place: usiz
     }
 }
 
-/// Call this after the subscriber at `place` was removed from the table. If another subscriber was the last in the table, the removal has moved that
-/// subscriber to `place`. In the set of the moved subscriber's track, replaces the old place with the new one.
+/// Updates the sets of places after the subscriber at `place` was removed from the table. Such a removal moves the last subscriber of the table to
+/// `place`, unless the removed subscriber was the last one. In the set of the moved subscriber's track, replaces this subscriber's old place with
+/// `place`.
 pub fn move_last(
     tracks: &mut IndexMap<u32, LiveTrack>,
     subscribers: &IndexMap<u32, LiveSubscriber>,

@@ -27,7 +27,8 @@ impl Content {
         }
     }
 
-    /// Adds a packet to the track, and offers the resulting packets or frames to the track's subscribers.
+    /// Adds a packet to the track. Then offers the packets that are now in order (plain track), or the frames that are now complete (layered track), to
+    /// the track's subscribers.
     #[inline(always)]
     pub fn packet(&mut self, track: u32, moment: u64, bytes: &PacketBuf) -> Reply
         ensures does { DoesSilently self.old self.new (call.Packet track moment bytes.now) result }
@@ -58,7 +59,8 @@ impl Content {
         }
     }
 
-    /// Advances the track's time, and offers the resulting packets or frames to the track's subscribers.
+    /// Advances the track's time. Then offers the packets that are now in order (plain track), or the frames that are now complete (layered track), to
+    /// the track's subscribers.
     pub fn tick(&mut self, track: u32, moment: u64) -> Reply
         ensures does { DoesSilently self.old self.new (call.Tick track moment) result }
         ensures fed { is_starved result ≡ false }
@@ -86,7 +88,7 @@ impl Content {
         }
     }
 
-    /// Replaces the contents of `out` with the missing sequence numbers of the track.
+    /// Replaces the contents of `out` with the sequence numbers of the packets for which the track waits.
     pub fn missing(&self, track: u32, out: &mut SeqList) -> Reply
         ensures does { (bytes : List ℕ) → Does self.now self.now (call.Missing track) result bytes out.new }
         ensures fed { is_starved result ≡ false }

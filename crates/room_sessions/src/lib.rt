@@ -1,5 +1,5 @@
-//! Runs the sessions of publishers and subscribers on a room in one thread. `work` serves a session's calls on the room until the session has a datagram to
-//! send, or has no call left.
+//! Runs, in one thread, the sessions of a room's publishers and subscribers. `work` makes a session's calls on the room. It stops when the session
+//! has a datagram to send, or has no call left.
 #![tactic(auto)]
 
 mod either;

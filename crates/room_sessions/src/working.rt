@@ -5,9 +5,9 @@ use room_core::{Recorder, Room};
 use session_steps::{Output, Session};
 use sfu_base::Scratch;
 
-/// Serves the session's calls on the room, all from this seat, and passes each reply to the session. Stops when the session has a datagram to send, or has no
-/// call left. Returns `Packet` if there is a datagram to send; the datagram is in `scratch.packet`. Returns `Nothing` if no call is left; the session then
-/// waits for the next datagram.
+/// Makes the session's calls on the room, all from the seat `seat`, and passes each reply to the session. Stops when the session has a datagram to
+/// send, or has no call left. Returns `Packet` if there is a datagram to send; the datagram is in `scratch.packet`. Returns `Nothing` if no call is
+/// left; the session then waits for the next datagram.
 pub fn work<R: Recorder, S: Session>(
     room: &mut Room<R>,
     seat: u32,

@@ -9,8 +9,8 @@ use crate::feedback::Feedback;
 use crate::names::{Names, PAIR, first_name, first_pair};
 use crate::packet::{Body, SOURCES, split_packet};
 
-/// The part of a datagram that remains to be read. First come the remaining numbers of the current pair, then the pairs of the same NACK in the
-/// bytes `pairs..end`, then the packets from byte `packets` on.
+/// The part of a datagram that remains to be read. First come the remaining sequence numbers of the current pair. The other pairs of the same NACK
+/// follow, in the bytes `pairs..end`. The packets from byte `packets` on come last.
 #[derive(Clone, Copy, Debug)]
 pub(crate) struct Cursor {
     pub(crate) names: Names,
@@ -20,8 +20,8 @@ pub(crate) struct Cursor {
     pub(crate) packets: usize,
 }
 
-/// A cursor without a current pair. The pairs of a NACK for `media` in the bytes `pairs..end` remain to be read, then the packets from byte
-/// `packets` on.
+/// A cursor without a current pair. Two parts remain to be read: first the bytes `pairs..end`, which are pairs of a NACK for `media`, and then the
+/// packets from byte `packets` on.
 pub(crate) fn cursor_at(media: u32, pairs: usize, end: usize, packets: usize) -> Cursor
     ensures left { (bytes : List ℕ) → left_at bytes result ≡ nacks media (names_in (slice_range bytes pairs end)) ++ feedback_of (drop packets bytes) }
     ensures fields { (result.pairs ≡ pairs) × (result.end ≡ end) × (result.packets ≡ packets) }
@@ -36,8 +36,8 @@ pub(crate) fn cursor_at(media: u32, pairs: usize, end: usize, packets: usize) ->
     }
 }
 
-/// Enters the packet that begins at byte `start`. If it is a picture loss indication, returns its item. Also returns the next cursor. For a
-/// NACK it is before the pairs; for any other packet it is after the packet.
+/// Enters the packet that begins at byte `start`, and returns the next cursor. In a NACK, this cursor is at the first pair. For any other packet, it
+/// is at the packet's end. If the packet is a picture loss indication, its item is returned too.
 fn enter_packet(bytes: &[u8], start: usize) -> (Option<Feedback>, Cursor)
     requires some { start < length bytes.now }
     requires faultless { fault_among (packets_in (drop start bytes.now)) ≡ None }

@@ -50,9 +50,9 @@ impl<'a> Iterator for Feedbacks<'a> {
     }
 }
 
-/// Reads a datagram (RFC 3550, section 6.1), and returns the feedback of its packets in order (RFC 4585, sections 6.2.1 and 6.3.1). Packets of
-/// other types and formats are skipped, and the first packet may be of any type (own rule). If the datagram is empty or a packet has a fault,
-/// returns the first fault and no feedback.
+/// Reads a datagram (RFC 3550, section 6.1), and returns the feedback of its packets in order (RFC 4585, sections 6.2.1 and 6.3.1). Packets that are
+/// neither a generic NACK nor a picture loss indication are skipped, and the first packet may be of any type (own rule). If the datagram is empty or
+/// a packet has a fault, returns the first fault and no feedback.
 pub fn read<'a>(bytes: &'a [u8]) -> Result<Feedbacks<'a>, RtcpFault>
     ensures items { IfOk result (λ items. items ≡ feedback_of bytes.now) }
     ensures grammar { IfOk result (λ items. IsDatagram bytes.now items) }

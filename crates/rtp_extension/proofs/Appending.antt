@@ -8,9 +8,9 @@ use Rattle.rtp_extension.specs.Reblocked.{block_if, block_in, block_with, elemen
 use Rattle.rtp_extension.proofs.Reblocking.{length-block_in, zeros_taken}
 
 -- the next element fits if all of them fit
-pub room_left : (form : Form) (out all start : List ℕ) (left es : List PlainElement) (e : PlainElement) → out ++ elements_laid form left ≡ start ++ all
+pub capacity_left : (form : Form) (out all start : List ℕ) (left es : List PlainElement) (e : PlainElement) → out ++ elements_laid form left ≡ start ++ all
     → length start + length all ≤ 2048 → left ≡ e ∷ es → length out + length (element_bytes form e) ≤ 2048
-room_left form out all start left es e written room first =
+capacity_left form out all start left es e written capacity first =
     let there : out ++ (element_bytes form e ++ elements_laid form es) ≡ start ++ all = sym (ap (λ (x : List PlainElement). out ++ elements_laid form x) first) ∙ written in
     omega (arith, ap length there, length-append out (element_bytes form e ++ elements_laid form es), length-append (element_bytes form e) (elements_laid form es), length-append start all)
 

@@ -7,7 +7,7 @@ use Rattle.rtp_extension.specs.Blocks.{IsWhole}
 -- the form can encode the element, and its bytes fit after those in the buffer
 pub record CanAppend (form : Form) (old : List ℕ) (e : PlainElement) : Type 0 where
   pub fits : Fits form e
-  pub room : length old + length (element_bytes form e) ≤ 2048
+  pub capacity : length old + length (element_bytes form e) ≤ 2048
 
 -- Take any block at the end of the buffer that consists of elements and padding. With the appended bytes, this element is the block's last one.
 pub record AddsElement (form : Form) (old new : List ℕ) (e : PlainElement) : Type 0 where

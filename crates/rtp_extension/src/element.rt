@@ -57,10 +57,10 @@ impl<'a> Iterator for Elements<'a> {
     }
 }
 
-/// The id at which processing ends in the one-byte form.
+/// In the one-byte form, reading stops at this id.
 const RESERVED_ID: u8 = 15;
 
-/// Returns the first element and the bytes after it, or `None` if processing ends before there is an element.
+/// Returns the block's first element, and the bytes after this element. Returns `None` if reading stops before any element.
 pub(crate) fn first<'a>(form: Form, block: &'a [u8]) -> Option<(Element<'a>, &'a [u8])>
     ensures { MatchOption result (elements_in form block.now ≡ []) (λ x. elements_in form block.now ≡ plain x.0 ∷ elements_in form x.1.now) }
 {
@@ -77,7 +77,7 @@ pub(crate) fn first<'a>(form: Form, block: &'a [u8]) -> Option<(Element<'a>, &'a
     None
 }
 
-/// In the one-byte form, returns the element that begins with the byte `head`, and the bytes after it. Returns `None` if processing ends here.
+/// In the one-byte form, returns the element that begins with the byte `head`, and the bytes after it. Returns `None` if reading stops at this byte.
 fn one_byte<'a>(head: u8, behind: &'a [u8]) -> Option<(Element<'a>, &'a [u8])>
     requires { 0 < head }
     ensures { MatchOption result (elements_in Form.OneByte (head ∷ behind.now) ≡ [])

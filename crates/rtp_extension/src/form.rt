@@ -23,7 +23,7 @@ pub(crate) const LONGEST_ONE_BYTE: usize = 16;
 /// The largest length of a value in the two-byte form, in bytes.
 pub(crate) const LONGEST_TWO_BYTE: usize = 255;
 
-/// Returns the form that a profile stands for, or `None` if it stands for neither.
+/// Returns the form that a profile stands for, or `None` if the profile stands for neither form.
 pub(crate) fn named_form(profile: u16) -> Option<Form>
     ensures { result ≡ form_of profile }
 {
@@ -36,7 +36,8 @@ pub(crate) fn named_form(profile: u16) -> Option<Form>
     }
 }
 
-/// Returns the profile and the form that a block needs once one of its elements has this value. `profile` and `form` are those of the old block.
+/// Returns the profile and the form of a new block, in which one element of the old block gets the value `value`. `profile` and `form` are those of
+/// the old block.
 pub(crate) fn wide_enough(profile: u16, form: Form, value: &[u8]) -> (u16, Form)
     requires { form_of profile ≡ Some form }
     ensures profile { result.0 ≡ profile_for profile value.now }
@@ -49,7 +50,7 @@ pub(crate) fn wide_enough(profile: u16, form: Form, value: &[u8]) -> (u16, Form)
     }
 }
 
-/// The length of an element in this form, in bytes.
+/// Returns the length, in bytes, of an element that has this value and this form.
 pub(crate) fn element_len(form: Form, value: &[u8]) -> usize
     ensures { (e : PlainElement) → e.value ≡ value.now → result ≡ length (element_bytes form e) }
 {

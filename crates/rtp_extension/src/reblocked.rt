@@ -8,19 +8,20 @@ ghost use Rattle.rtp_extension.specs.Seen.{elements_left};
 
 use crate::form::{Form, element_len, named_form, wide_enough};
 use crate::replaced::{Replaced, first_left};
-use crate::writers::{ROOM, append_element};
+use crate::writers::{CAPACITY, append_element};
 use sfu_base::{NoFit, PacketBuf};
 
-/// The length of the profile and length fields, in bytes (RFC 3550, section 5.3.1).
+/// The total length, in bytes, of the profile field and the length field of a header extension (RFC 3550, section 5.3.1).
 const EXTENSION_HEADER: usize = 4;
 
-/// The length of a word, in bytes.
+/// The length of a 32-bit word, in bytes.
 const WORD: usize = 4;
 
-/// Appends a header extension with its profile and length fields. The new extension has the elements of the block in the same order. The first
-/// element with this id, which must exist, gets this value of 1 to 255 bytes (own rule). Bytes that aren't part of an element are left out, and
-/// zero bytes fill up the last 32-bit word. The profile stays the same, but a value of more than 16 bytes turns the one-byte form into the
-/// two-byte form, with profile 0x1000. Returns `NoFit` and leaves the buffer unchanged if it would exceed 2,048 bytes.
+/// Appends a header extension, including its profile field and its length field. The new extension has the elements of the old block in the same
+/// order. The first element with the id `id` gets the value `value` (own rule). This element must exist, and the value must have 1 to 255 bytes.
+/// Bytes that aren't part of an element are left out, and zero bytes fill up the last 32-bit word. If the old block has the one-byte form and the
+/// value has more than 16 bytes, the new block has the two-byte form and profile 0x1000. Otherwise the profile stays the same. If the buffer would
+/// exceed 2,048 bytes, returns `NoFit` and leaves the buffer unchanged.
 pub fn reblock(
     profile: u16,
     block: &[u8],
@@ -48,7 +49,7 @@ pub fn reblock(
         return Err(NoFit);
     };
     let words = len.div_ceil(WORD);
-    if out.bytes().len() + EXTENSION_HEADER + WORD * words > ROOM {
+    if out.bytes().len() + EXTENSION_HEADER + WORD * words > CAPACITY {
         return Err(NoFit);
     }
     out.append(&profile.to_be_bytes());
@@ -58,7 +59,7 @@ pub fn reblock(
     Ok(())
 }
 
-/// Returns the length of the elements in this form, in bytes, or `None` if they exceed a buffer's capacity of 2,048 bytes.
+/// Returns the length of the elements in this form, in bytes, or `None` if this length exceeds 2,048 bytes, the capacity of a buffer.
 fn written_len(form: Form, elements: Replaced<'_>) -> Option<usize>
     ensures { MatchOption result (2048 < length (elements_laid form (elements_left elements.entry)))
         (λ n. (n ≡ length (elements_laid form (elements_left elements.entry))) × (n ≤ 2048)) }
@@ -67,7 +68,7 @@ fn written_len(form: Form, elements: Replaced<'_>) -> Option<usize>
     let mut left = elements;
     while let Some((element, others)) = first_left(left) {
         len += element_len(form, element.value);
-        if len > ROOM {
+        if len > CAPACITY {
             return None;
         }
         left = others;
@@ -78,7 +79,7 @@ fn written_len(form: Form, elements: Replaced<'_>) -> Option<usize>
 /// Appends the elements in this form.
 fn append_elements(out: &mut PacketBuf, form: Form, elements: Replaced<'_>)
     requires fit { ElementsFit form (elements_left elements) }
-    requires room { length out.old + length (elements_laid form (elements_left elements)) ≤ 2048 }
+    requires capacity { length out.old + length (elements_laid form (elements_left elements)) ≤ 2048 }
     ensures { out.new ≡ out.old ++ elements_laid form (elements_left elements.entry) }
 {
     let mut left = elements;

@@ -6,7 +6,8 @@ ghost use Rattle.rtp_extension.specs.Seen.{elements_left, plain};
 use crate::element::{Element, first};
 use crate::form::Form;
 
-/// The remaining elements of a block. The first element with this id gets the value. After that element, `value` is `None`.
+/// The remaining elements of a block, with one value replaced. The first element with the id `id` gets the value `value`. Once this element has been
+/// returned, `value` is `None`.
 #[derive(Clone, Copy, Debug)]
 pub(crate) struct Replaced<'a> {
     pub(crate) form: Form,

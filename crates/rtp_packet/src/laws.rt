@@ -7,7 +7,7 @@ ghost use Rattle.rtp_packet.specs.Packet.{IsPacket, Packet, packet_of};
 ghost use Rattle.rtp_packet.specs.Restamped.{at_timestamp, restamped};
 ghost use Rattle.rtp_packet.specs.Rewritten.{readdressed, rewritten};
 
-/// 12 or more bytes have no fault if the first of them is 0x80 (version 2, no padding, no extension, no CSRC identifiers).
+/// If there are at least 12 bytes and the first is 0x80, the bytes have no fault. 0x80 means version 2, no padding, no extension and no CSRC identifiers.
 pub fn plain_packets_read()
     ensures { (bytes : List ℕ) → 12 ≤ length bytes → slice_index bytes 0 ≡ 128 → first_fault bytes ≡ None }
 {}
@@ -17,7 +17,7 @@ pub fn bytes_without_fault_are_a_packet()
     ensures { (bytes : List ℕ) → AreBytes bytes → first_fault bytes ≡ None → IsPacket bytes (packet_of bytes) }
 {}
 
-/// The bytes of a packet have no fault, and `packet_of` of these bytes is that packet.
+/// The bytes of a packet have no fault, and `packet_of` returns that packet for them.
 pub fn a_packet_is_read()
     ensures no_fault { (bytes : List ℕ) (p : Packet) → IsPacket bytes p → first_fault bytes ≡ None }
     ensures fields { (bytes : List ℕ) (p : Packet) → IsPacket bytes p → packet_of bytes ≡ p }
@@ -28,7 +28,8 @@ pub fn bytes_are_one_packet()
     ensures { (bytes : List ℕ) (p q : Packet) → IsPacket bytes p → IsPacket bytes q → p ≡ q }
 {}
 
-/// `rewritten` keeps the length and the first fault of 12 or more bytes. Of the packet's fields, it changes only sequence number, SSRC and marker.
+/// If there are at least 12 bytes, `rewritten` changes neither the length nor the first fault. Of the packet's fields, it changes only the sequence
+/// number, the SSRC and the marker.
 pub fn three_fields_are_rewritten()
     ensures len { (sequence ssrc : ℕ) (marker : Bool) (bytes : List ℕ) → 12 ≤ length bytes
         → length (rewritten sequence ssrc marker bytes) ≡ length bytes }
@@ -38,7 +39,7 @@ pub fn three_fields_are_rewritten()
         → packet_of (rewritten sequence ssrc marker bytes) ≡ readdressed sequence ssrc marker (packet_of bytes) }
 {}
 
-/// `restamped` keeps the length and the first fault of 12 or more bytes. Of the packet's fields, it changes only the timestamp.
+/// If there are at least 12 bytes, `restamped` changes neither the length nor the first fault. Of the packet's fields, it changes only the timestamp.
 pub fn the_timestamp_is_rewritten()
     ensures len { (timestamp : ℕ) (bytes : List ℕ) → 12 ≤ length bytes → length (restamped timestamp bytes) ≡ length bytes }
     ensures faults { (timestamp : ℕ) (bytes : List ℕ) → 12 ≤ length bytes → first_fault (restamped timestamp bytes) ≡ first_fault bytes }

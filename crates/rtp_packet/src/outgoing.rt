@@ -9,8 +9,8 @@ ghost use Rattle.rtp_packet.specs.Rewritten.{readdressed, rewritten};
 use byteorder::{BigEndian, ByteOrder};
 use sfu_base::PacketBuf;
 
-/// Replaces a packet's sequence number, SSRC and marker, and changes no other bit. [`read`](crate::read) must accept the packet, and still
-/// accepts it afterwards.
+/// Replaces a packet's sequence number, SSRC and marker, and changes no other bit. The packet must be one that [`read`](crate::read) accepts. `read`
+/// accepts the changed packet too.
 #[tactic(auto, using(crate::proofs::Faultless::header_there))]
 pub fn rewrite(packet: &mut PacketBuf, seq: u16, ssrc: u32, marker: bool)
     requires { first_fault packet.old ≡ None }
@@ -27,8 +27,8 @@ pub fn rewrite(packet: &mut PacketBuf, seq: u16, ssrc: u32, marker: bool)
     packet.overwrite(8, &source);
 }
 
-/// Replaces a packet's timestamp, in ticks of the media's clock, and changes no other bit. [`read`](crate::read) must accept the packet, and
-/// still accepts it afterwards.
+/// Replaces a packet's timestamp, and changes no other bit. The timestamp is in ticks of the media's clock. The packet must be one that
+/// [`read`](crate::read) accepts. `read` accepts the changed packet too.
 #[tactic(auto, using(crate::proofs::Faultless::header_there))]
 pub fn restamp(packet: &mut PacketBuf, timestamp: u32)
     requires { first_fault packet.old ≡ None }

@@ -9,8 +9,8 @@ ghost use Rattle.rtp_packet.specs.Seen.{parts};
 use byteorder::{BigEndian, ByteOrder};
 use sfu_base::RtpFault;
 
-/// The parts of an RTP packet (RFC 3550, section 5.1). `block` and `payload` are slices of its bytes. A packet without a header extension
-/// has no `profile` and an empty `block`. CSRC identifiers and padding aren't included.
+/// The parts of an RTP packet (RFC 3550, section 5.1). `block` and `payload` are slices of the packet's bytes. If the packet has no header extension,
+/// `profile` is `None` and `block` is empty. There are no fields for the CSRC identifiers and the padding.
 #[derive(Clone, Copy, Debug)]
 pub struct Rtp<'a> {
     /// The marker bit.
@@ -25,7 +25,7 @@ pub struct Rtp<'a> {
     pub ssrc: u32,
     /// The 16-bit profile field of the header extension.
     pub profile: Option<u16>,
-    /// The data of the header extension, after its profile and length fields: a whole number of 32-bit words.
+    /// The data of the header extension: the bytes after its profile and length fields. The number of these bytes is a multiple of 4.
     pub block: &'a [u8],
     /// The bytes between the header and the padding.
     pub payload: &'a [u8],
@@ -34,9 +34,9 @@ pub struct Rtp<'a> {
 /// The length of the fixed header, in bytes.
 const FIXED_HEADER: usize = 12;
 
-/// Reads a packet (RFC 3550, section 5.1), or returns the first fault that applies. `Short`: there are fewer than 12 bytes. `Version`: the
-/// version isn't 2. `Csrc`: the bytes end within the CSRC list. `Extension`: the bytes end within the header extension. `Padding`: the
-/// padding count is 0, or more than the number of bytes after the header.
+/// Reads a packet (RFC 3550, section 5.1), or returns the first of these faults that applies. `Short`: there are fewer than 12 bytes. `Version`: the
+/// version isn't 2. `Csrc`: the bytes end within the CSRC list. `Extension`: the bytes end within the header extension. `Padding`: the padding count is
+/// 0, or more than the number of bytes after the header.
 pub fn read<'a>(bytes: &'a [u8]) -> Result<Rtp<'a>, RtpFault>
     ensures found { IfOk result (λ r. IsPacket bytes.now (parts r)) }
     ensures none { IfErr result (λ _. (p : Packet) → IsPacket bytes.now p → ⊥) }
@@ -47,7 +47,7 @@ pub fn read<'a>(bytes: &'a [u8]) -> Result<Rtp<'a>, RtpFault>
     located(bytes)
 }
 
-/// Finds the parts of a packet by the header's fields, or returns the first fault.
+/// Finds the parts of a packet from the fields of its header, or returns the first fault that applies.
 #[tactic(auto, unfolding(crate::specs::Faults::first_fault))]
 fn located<'a>(bytes: &'a [u8]) -> Result<Rtp<'a>, RtpFault>
     ensures parts { IfOk result (λ r. parts r ≡ packet_of bytes.now) }
@@ -80,8 +80,8 @@ fn located<'a>(bytes: &'a [u8]) -> Result<Rtp<'a>, RtpFault>
     })
 }
 
-/// Splits the bytes after the CSRC list. Returns the header extension's profile, its block, and the bytes after it. Without an extension, the
-/// profile is `None` and the block is empty. Returns `Extension` if the bytes end within the extension.
+/// Splits the bytes after the CSRC list. Returns the header extension's profile, its data, and the bytes after the extension. Without an extension, the
+/// profile is `None` and the data slice is empty. Returns `Extension` if the bytes end within the extension.
 fn extension<'a>(
     extended: bool,
     rest: &'a [u8],
@@ -105,7 +105,8 @@ fn extension<'a>(
     Ok((Some(BigEndian::read_u16(rest)), &rest[4..end], &rest[end..]))
 }
 
-/// Returns the bytes after the header without the padding. Returns `Padding` if the padding count is 0, or more than the number of bytes after the header.
+/// Returns the payload: the bytes after the header, without the padding. Returns `Padding` if the padding count is 0, or more than the number of bytes
+/// after the header.
 fn unpadded<'a>(padded: bool, rest: &'a [u8]) -> Result<&'a [u8], RtpFault>
     ensures payload { IfOk result (λ x. x.now ≡ payload_in padded rest.now) }
     ensures ok { IfOk result (λ _. has_bad_padding padded rest.now ≡ false) }

@@ -16,8 +16,8 @@ const FIXED_HEADER: usize = 12;
 /// The length of the header extension's profile and length fields, in bytes (RFC 3550, section 5.3.1).
 const EXTENSION_HEADER: usize = 4;
 
-/// Replaces the contents of `out` with the packet's header, but with the padding bit cleared, and with this payload type, sequence number and
-/// SSRC. `read` has the parts that were read from the packet.
+/// Replaces the contents of `out` with the packet's header. In `out` the padding bit is 0, and the payload type, sequence number and SSRC are the
+/// given ones. `read` has the parts that were read from the packet.
 pub(crate) fn fill_header(
     packet: &[u8],
     read: &Rtp<'_>,
@@ -27,7 +27,7 @@ pub(crate) fn fill_header(
     out: &mut PacketBuf,
 )
     requires is_read { IsPacket packet.now (parts read.now) }
-    requires room { length packet.now ≤ 2048 }
+    requires capacity { length packet.now ≤ 2048 }
     requires payload_type { payload_type < 128 }
     ensures header { (is : IsPacket packet.now (parts read.now))
         → out.new ≡ header_bytes is.csrc_words is.csrcs is.block_words (with_address payload_type seq ssrc (parts read.now)) }
@@ -43,7 +43,7 @@ pub(crate) fn fill_header(
     out.append(&packet[FIXED_HEADER..header_len(packet, read)]);
 }
 
-/// The length of the whole header, in bytes.
+/// The length of the whole header in bytes, with the CSRC list and the header extension.
 fn header_len(packet: &[u8], read: &Rtp<'_>) -> usize
     requires { IsPacket packet.now (parts read.now) }
     ensures { (is : IsPacket packet.now (parts read.now))

@@ -15,7 +15,7 @@ pub fn a_packet_has_one_retransmission()
     rtp_packet::a_packet_is_read();
 }
 
-/// There is at most one form of a packet without padding. If the packet's padding bit is 0, that form is the packet itself.
+/// If the padding of a packet is removed, there is at most one result. If the packet's padding bit is 0, the result is the packet itself.
 pub fn a_packet_without_padding_is_bare()
     ensures one { (packet bare other : List ℕ) → IsBare packet bare → IsBare packet other → bare ≡ other }
     ensures same { (packet bare : List ℕ) → is_padded packet ≡ false → IsBare packet bare → bare ≡ packet }
@@ -23,7 +23,7 @@ pub fn a_packet_without_padding_is_bare()
     rtp_packet::a_packet_is_read();
 }
 
-/// With a given SSRC and payload type, the bytes of a retransmission packet have at most one original.
+/// A retransmission packet has at most one original packet with a given SSRC and payload type.
 pub fn a_retransmission_has_one_original()
     ensures { (bytes original other : List ℕ) (ssrc payload_type : ℕ) → IsOriginal bytes ssrc payload_type original
         → IsOriginal bytes ssrc payload_type other → original ≡ other }

@@ -25,7 +25,7 @@ pub fn unwrap(
     payload_type: u8,
     out: &mut PacketBuf,
 ) -> Result<(), RtxFault>
-    requires room { length bytes.now ≤ 2048 }
+    requires capacity { length bytes.now ≤ 2048 }
     requires payload_type { payload_type < 128 }
     ensures ok { OnOk result (unwrap_fault bytes.now ≡ None) }
     ensures fault { IfErr result (λ e. unwrap_fault bytes.now ≡ Some e) }

@@ -23,7 +23,7 @@ pub struct Rtx {
 /// of `packet` in two bytes, followed by the payload of `packet`. Padding is left out.
 pub fn wrap(packet: &[u8], seq: u16, rtx: &Rtx, out: &mut PacketBuf)
     requires reads { first_fault packet.now ≡ None }
-    requires room { length packet.now ≤ 2046 }
+    requires capacity { length packet.now ≤ 2046 }
     requires payload_type { rtx.now.payload_type < 128 }
     ensures form { IsRetransmission packet.now seq rtx.now out.new }
     ensures parts { (p : Packet) → IsPacket packet.now p → IsPacket out.new (retransmitted seq rtx.now p) }

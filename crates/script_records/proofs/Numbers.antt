@@ -26,42 +26,42 @@ take_bytes (suc n) (x ∷ xs) fits (suc i) = take_bytes n xs (λ k. fits (suc k)
 -- ---- one number: the bytes of a number that was read are those from which it was read
 
 laid_1 : (bytes : List ℕ) → 1 ≤ length bytes → AreBytes bytes → big_bytes 1 (big_number 1 bytes) ++ drop 1 bytes ≡ bytes
-laid_1 (a ∷ rest) room fits = let n0 : big_number 1 (a ∷ rest) % 256 ≡ a = omega (arith, fits 0) in ap (λ (x : ℕ). x ∷ rest) n0
-laid_1 [] room fits = absurd (omega arith)
+laid_1 (a ∷ rest) capacity fits = let n0 : big_number 1 (a ∷ rest) % 256 ≡ a = omega (arith, fits 0) in ap (λ (x : ℕ). x ∷ rest) n0
+laid_1 [] capacity fits = absurd (omega arith)
 
 laid_2 : (bytes : List ℕ) → 2 ≤ length bytes → AreBytes bytes → big_bytes 2 (big_number 2 bytes) ++ drop 2 bytes ≡ bytes
-laid_2 (a ∷ b ∷ rest) room fits =
+laid_2 (a ∷ b ∷ rest) capacity fits =
     let n = big_number 2 (a ∷ b ∷ rest) in
     let n0 : n / 256 % 256 ≡ a = omega (arith, fits 0, fits 1) in
     let n1 : n % 256 ≡ b = omega (arith, fits 0, fits 1) in
     cc
-laid_2 bytes room fits = absurd (omega arith)
+laid_2 bytes capacity fits = absurd (omega arith)
 
 laid_4 : (bytes : List ℕ) → 4 ≤ length bytes → AreBytes bytes → big_bytes 4 (big_number 4 bytes) ++ drop 4 bytes ≡ bytes
-laid_4 (a ∷ b ∷ c ∷ d ∷ rest) room fits =
+laid_4 (a ∷ b ∷ c ∷ d ∷ rest) capacity fits =
     let n = big_number 4 (a ∷ b ∷ c ∷ d ∷ rest) in
     let n0 : n / 16777216 % 256 ≡ a = omega (arith, fits 0, fits 1, fits 2, fits 3) in
     let n1 : n / 65536 % 256 ≡ b = omega (arith, fits 0, fits 1, fits 2, fits 3) in
     let n2 : n / 256 % 256 ≡ c = omega (arith, fits 0, fits 1, fits 2, fits 3) in
     let n3 : n % 256 ≡ d = omega (arith, fits 0, fits 1, fits 2, fits 3) in
     cc
-laid_4 bytes room fits = absurd (omega arith)
+laid_4 bytes capacity fits = absurd (omega arith)
 
 laid_8 : (bytes : List ℕ) → 8 ≤ length bytes → AreBytes bytes → big_bytes 8 (big_number 8 bytes) ++ drop 8 bytes ≡ bytes
-laid_8 (a ∷ b ∷ c ∷ d ∷ e ∷ f ∷ g ∷ h ∷ rest) room fits =
+laid_8 (a ∷ b ∷ c ∷ d ∷ e ∷ f ∷ g ∷ h ∷ rest) capacity fits =
     let all : List ℕ = a ∷ b ∷ c ∷ d ∷ e ∷ f ∷ g ∷ h ∷ rest in
     let front : List ℕ = a ∷ b ∷ c ∷ d ∷ e ∷ f ∷ g ∷ h ∷ [] in
     let same : big_number 8 all ≡ from_be_bytes w64 front = omega arith in
     ap (λ (x : List ℕ). x ++ rest) (be_bytes_8 front (big_number 8 all) refl (take_bytes 8 all fits) same)
-laid_8 bytes room fits = absurd (omega arith)
+laid_8 bytes capacity fits = absurd (omega arith)
 
 one_laid : (f : Field) (bytes : List ℕ) → width_of f ≤ length bytes → AreBytes bytes
     → place_bytes (place_of f (big_number (width_of f) bytes)) ++ drop (width_of f) bytes ≡ bytes
-one_laid kind.Number8 bytes room fits = laid_1 bytes room fits
-one_laid kind.Number16 bytes room fits = laid_2 bytes room fits
-one_laid kind.Number32 bytes room fits = laid_4 bytes room fits
-one_laid kind.Number64 bytes room fits = laid_8 bytes room fits
-one_laid kind.Ssrc bytes room fits = laid_4 bytes room fits
+one_laid kind.Number8 bytes capacity fits = laid_1 bytes capacity fits
+one_laid kind.Number16 bytes capacity fits = laid_2 bytes capacity fits
+one_laid kind.Number32 bytes capacity fits = laid_4 bytes capacity fits
+one_laid kind.Number64 bytes capacity fits = laid_8 bytes capacity fits
+one_laid kind.Ssrc bytes capacity fits = laid_4 bytes capacity fits
 
 one_within : (f : Field) (bytes : List ℕ) → AreBytes bytes → big_number (width_of f) bytes < 2 ^ bits_of f
 one_within kind.Number8 bytes fits = big_from-lt 0 1 bytes fits
@@ -107,8 +107,8 @@ all_within (f ∷ fs) bytes fits =
 -- the numbers that were read, written again, and the bytes after them
 pub numbers_laid : (fs : List Field) (bytes : List ℕ) → size_of fs ≤ length bytes → AreBytes bytes
     → flat_map place_bytes (places_of fs (numbers_at fs bytes)) ++ drop (size_of fs) bytes ≡ bytes
-numbers_laid [] bytes room fits = refl
-numbers_laid (f ∷ fs) bytes room fits =
+numbers_laid [] bytes capacity fits = refl
+numbers_laid (f ∷ fs) bytes capacity fits =
     let w = width_of f in
     let others = numbers_laid fs (drop w bytes) (omega (arith, length-drop w bytes)) (drop_bytes w bytes fits) in
     append_assoc (place_bytes (place_of f (big_number w bytes))) (flat_map place_bytes (places_of fs (numbers_at fs (drop w bytes)))) (drop (w + size_of fs) bytes)

@@ -18,7 +18,7 @@ pub fn read_line<'a>(reader: &'a mut LineReader, line: &[u8]) -> Option<&'a Call
     reader.read(line).ok()
 }
 
-/// Reads calls from lines and records. A call stays valid until the next one is read.
+/// Reads calls from lines and records. A call stays valid until the next call is read.
 #[derive(Drop)]
 pub struct CallReader {
     pub lines: LineReader,
@@ -34,7 +34,7 @@ impl CallReader {
         }
     }
 
-    /// Reads the call of a line or of a record's body. Returns `None` exactly if it isn't a call.
+    /// Reads the call of a unit. The unit is a line or the body of a record, as `form` says. Returns `None` exactly if the unit isn't a call.
     #[inline(always)]
     pub fn read(&mut self, form: Form, unit: &[u8]) -> Option<&Call>
         ensures { MatchOption result (call_in form unit.now ≡ None) (λ call. call_in form unit.now ≡ Some call.now) }

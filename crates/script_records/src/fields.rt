@@ -17,7 +17,7 @@ fn width(field: Field) -> usize
     }
 }
 
-/// Reads the numbers at the start of `bytes`, one for each field, each in network byte order.
+/// Reads one number for each field. The first number begins at the start of `bytes`, and each number is in network byte order.
 pub fn read_numbers<const N: usize>(fields: &[Field; N], bytes: &[u8]) -> [u64; N]
     requires { size_of fields.now ≤ length bytes.now }
     ensures value { result ≡ numbers_at fields.now bytes.now }

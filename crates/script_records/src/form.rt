@@ -5,6 +5,6 @@
 pub enum Form {
     /// Lines of text, counted from 1.
     Lines,
-    /// A header, which counts as record 0, and then records.
+    /// A header, and then records. The header counts as record 0.
     Records,
 }

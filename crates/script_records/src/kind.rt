@@ -2,7 +2,7 @@
 ghost use Rattle.std.specs.Prelude.{◌≡◌};
 ghost use Rattle.script_records.specs.Kinds.{code_of, has_length, kind_named, may_have};
 
-/// The kind of a record. Its number is the first byte of the record's body.
+/// The kind of a record. The number of the kind is the first byte of the record's body.
 #[derive(Clone, Copy, Debug, PartialEq, Eq)]
 pub enum RecordKind {
     PublishPlain = 1,
@@ -22,7 +22,7 @@ pub enum RecordKind {
 }
 
 impl RecordKind {
-    /// Returns the kind with this number, or `None` if there is none.
+    /// Returns the kind with this number, or `None` if no kind has this number.
     pub fn named(code: u8) -> Option<RecordKind>
         ensures { result ≡ kind_named code }
     {
@@ -52,7 +52,7 @@ impl RecordKind {
         self as u8
     }
 
-    /// Returns whether a body of this kind may have `length` bytes in all. The first of them is the kind's number.
+    /// Returns whether a body of this kind may have `length` bytes. These include the first byte, which is the kind's number.
     pub fn has_length(self, length: usize) -> bool
         ensures { result ≡ has_length self length }
     {
@@ -72,8 +72,8 @@ impl RecordKind {
     }
 }
 
-/// Returns whether the body of a record may begin with the byte `code` and have `length` bytes in
-/// all. Such a body is in the table of records, whatever its other bytes are. Allocates no memory.
+/// Returns whether the body of a record may begin with the byte `code` and have `length` bytes, including this first byte. If it may, all bytes with this
+/// first byte and this length are the body of a call. Allocates no memory.
 pub fn may_have_length(code: u8, length: usize) -> bool
     ensures { result ≡ may_have code length }
 {

@@ -1,4 +1,4 @@
-//! The binary form of scripts: each record is a call on the room, as bytes. Also reads the calls of scripts in either form, lines or records.
+//! The binary form of scripts: each record is a call on the room, as bytes. This crate also reads the calls of scripts in both forms: lines and records.
 #![tactic(auto)]
 
 mod call_reader;

@@ -18,7 +18,7 @@ use thiserror::Error;
 #[error("the record is outside the grammar")]
 pub struct NoRecord;
 
-/// The number of bytes between a record's kind and its packet.
+/// The number of bytes between the kind and the packet, in the body of a `Packet` record.
 pub const PACKET_HEAD: usize = 12;
 
 // The readers of single kinds are inlined: each function that returns a call by value would clear and copy its 2 KB again.
@@ -137,7 +137,7 @@ fn why(bytes: &[u8]) -> Call
     }
 }
 
-/// Returns the number of the track or subscriber, for a kind whose body has no other number.
+/// Returns the number of a track or subscriber. `bytes` is the rest of a body after the kind, and has only this number.
 pub fn number(bytes: &[u8]) -> u32
     requires { length bytes.now ≡ 4 }
     ensures { numbers_at (Field.Number32 ∷ []) bytes.now ≡ result ∷ [] }
@@ -197,8 +197,8 @@ fn said(body: &[u8]) -> Result<Call, NoRecord>
     }
 }
 
-/// Reads the body of a record, which is all bytes after its length, as a call. Returns
-/// `NoRecord` exactly when the bytes aren't the body of a call. Allocates no memory.
+/// Reads the body of a record as a call. The body is all bytes of the record after the length field. Returns `NoRecord` exactly when the bytes aren't the
+/// body of a call. Allocates no memory.
 pub fn read_record(body: &[u8]) -> Result<Call, NoRecord>
     ensures value { result_ok result ≡ call_of body.now }
     ensures ok { IfOk result (λ said. IsBody said body.now) }

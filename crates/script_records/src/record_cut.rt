@@ -12,7 +12,8 @@ pub const HEADER: &[u8] = b"\x00SF2";
 /// The greatest number of bytes in a record's body.
 const MOST_BODY: usize = 2061;
 
-/// Cuts input into a header and records. A record ends at its last byte, or as soon as its length or its kind is outside the grammar.
+/// Cuts input into a header and records. A record ends at its last byte. If its length field or its kind is outside the grammar, the record ends right
+/// after that field or kind.
 #[derive(Clone, Copy, Debug, Drop)]
 pub struct Records;
 

@@ -12,7 +12,7 @@ use sfu_base::Call;
 use sfu_script::Field::{Number32, Number64};
 use sfu_script::{KeptCalls, set_packet, set_take, set_tick};
 
-/// Reads records one after another, as [`read_record`] does, and returns a reference to each call.
+/// Reads records one after another. Reads each record as [`read_record`] does, but returns a reference to the call.
 #[derive(Debug, Drop)]
 pub struct RecordReader {
     calls: KeptCalls,
@@ -92,8 +92,8 @@ impl RecordReader {
         }
     }
 
-    /// Reads the body of a record as a call, which stays valid until the next record is read.
-    /// Returns `NoRecord` exactly when the bytes aren't the body of a call. Allocates no memory.
+    /// Reads the body of a record as a call. The call stays valid until the next record is read. Returns `NoRecord` exactly when the bytes aren't the
+    /// body of a call. Allocates no memory.
     pub fn read(&mut self, body: &[u8]) -> Result<&Call, NoRecord>
         ensures value { MatchResult result (λ said. call_of body.now ≡ Some said.now) (λ _. call_of body.now ≡ None) }
         ensures ok { IfOk result (λ said. IsBody said.now body.now) }

@@ -5,7 +5,7 @@ ghost use Rattle.script_records.specs.Values.{value_bytes, values_bytes};
 
 use sfu_base::{Blob, NoMemory};
 
-/// A value in a body, after the kind.
+/// One of the values that follow the kind in the body of a record.
 #[derive(Clone, Copy, Debug, PartialEq, Eq)]
 pub enum Value<'a> {
     /// A number of 8 bits.

@@ -136,7 +136,8 @@ fn append_call(call: &Call, out: &mut Blob) -> Result<(), NoMemory>
     }
 }
 
-/// Appends a call's record: the length of the body in two bytes, then the body. A packet must have at least one byte. On `NoMemory`, `out` is unchanged.
+/// Appends a call's record: the length of the body in two bytes, then the body. If the call is a packet, the packet must have at least one byte. On
+/// `NoMemory`, `out` is unchanged.
 pub fn write_record(call: &Call, out: &mut Blob) -> Result<(), NoMemory>
     requires { HasBytes call.now }
     ensures ok { OnOk result (out.new ≡ out.old ++ record_of call.now) }

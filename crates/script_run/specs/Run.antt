@@ -32,8 +32,8 @@ run_text (call ∷ calls) history = reply_line history call ++ run_text calls (h
 -- ---- a line or record
 
 -- a recorder that stores nothing shows no calls
-abbrev pub untold : KeepNone → Option (List Noted)
-untold recorder = None
+abbrev pub unrecorded : KeepNone → Option (List Noted)
+unrecorded recorder = None
 
 -- the reply to a call, or the end at a line or record without a call
 abbrev pub reply_to : Form → Option Call → ℕ → List Entry → Outcome (List Entry)

@@ -69,8 +69,8 @@ fn run_records<S: Source, K: Sink>(
     answer_behind(alloc, &mut units, piece, first, source, sink)
 }
 
-/// Runs a script: serves the calls in the source, and writes a line for each reply. The source has records if its first byte is 0, else lines.
-/// Returns the status.
+/// Runs a script: serves the calls in the source, and writes a line for each reply. If the source's first byte is 0, the script consists of records,
+/// otherwise of lines. Returns the status.
 pub fn run<S: Source, K: Sink>(alloc: Global, source: &mut S, sink: &mut K) -> Status
     ensures runs { Runs (exchange_of S.left S.faults K.written K.faults source.old source.new sink.old sink.new) (number_of result) }
     ensures headline { AreServed }

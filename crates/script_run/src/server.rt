@@ -10,7 +10,7 @@ ghost use Rattle.room_core.specs.Serves.{Stands};
 ghost use Rattle.room_core.specs.declared.recorder.KeepNone.{KeepNone};
 ghost use Rattle.room_core.specs.declared.room.Room.{Room};
 ghost use Rattle.script_records.specs.declared.form.Form.TheVariants.{Lines, Records};
-ghost use Rattle.script_run.specs.Run.{entry_of, reply_line, reply_to, served, untold};
+ghost use Rattle.script_run.specs.Run.{entry_of, reply_line, reply_to, served, unrecorded};
 ghost use Rattle.script_records.specs.Script.{call_in};
 ghost use Rattle.script_texts.specs.WholeLines.{fault_line, record_fault_line};
 
@@ -18,12 +18,12 @@ use crate::texts::add_unit_fault;
 use room_core::{KeepNone, Room};
 use script_records::{CallReader, Form};
 use script_texts::{add_fault, add_record_fault, add_reply, wants_memory};
-use sfu_base::{Blob, Call, NoMemory, PacketBuf, Reply, Scratch, SeqList};
+use sfu_base::{Blob, Call, NoMemory, Reply, Scratch};
 use sfu_driver::{Ending, Halt, Judge};
 use sfu_script::is_skipped;
 use std::alloc::Global;
 
-/// Serves each call of a script as seat 0, on a room whose recorder stores nothing.
+/// Serves the calls of a script. Seat 0 makes each call, on a room whose recorder stores nothing.
 #[derive(Drop)]
 pub struct CallServer {
     pub reader: CallReader,
@@ -54,8 +54,8 @@ fn serve_any(
     scratch: &mut Scratch,
     ready: &mut Blob,
 ) -> Result<(), Halt>
-    ensures judges { (history : List Entry) → Stands untold room.old history
-        → Judges (λ (room : Room KeepNone) (later : List Entry). Stands untold room later)
+    ensures judges { (history : List Entry) → Stands unrecorded room.old history
+        → Judges (λ (room : Room KeepNone) (later : List Entry). Stands unrecorded room later)
         (writes (reply_line history call.now) (history ++ entry_of call.now ∷ [])) room.new ready.old ready.new result }
     ensures grows { length ready.old ≤ length ready.new }
 {
@@ -69,23 +69,20 @@ fn serve_any(
 impl CallServer {
     /// Returns a server that has served nothing.
     pub fn new(alloc: Global) -> CallServer
-        ensures { Stands untold result.room [] }
+        ensures { Stands unrecorded result.room [] }
     {
         CallServer {
             reader: CallReader::new(),
             room: Room::new(alloc, KeepNone::new()),
-            scratch: Scratch {
-                packet: PacketBuf::new(),
-                names: SeqList::new(),
-            },
+            scratch: Scratch::new(),
         }
     }
 
     // Serves the call of a line or record. Inlined, as `judge` is, into the loop over units, which so distinguishes the most frequent kinds of call.
     #[inline(always)]
     fn serve(&mut self, form: Form, number: u32, unit: &[u8], ready: &mut Blob) -> Result<(), Halt>
-        ensures judges { (history : List Entry) → Stands untold self.old.room history
-            → Judges (λ (server : CallServer) (later : List Entry). Stands untold server.room later)
+        ensures judges { (history : List Entry) → Stands unrecorded self.old.room history
+            → Judges (λ (server : CallServer) (later : List Entry). Stands unrecorded server.room later)
             (reply_to form (call_in form unit.now) number history) self.new ready.old ready.new result }
         ensures grows { length ready.old ≤ length ready.new }
     {
@@ -115,7 +112,7 @@ pub struct LineServer {
 impl Judge for LineServer {
     ghost State = { List Entry };
 
-    ghost stands = { λ lines history. Stands untold lines.server.room history };
+    ghost stands = { λ lines history. Stands unrecorded lines.server.room history };
 
     ghost step = { served Lines };
 
@@ -140,7 +137,7 @@ impl Judge for LineServer {
     }
 }
 
-/// Serves the calls of a script of records; the script's first unit is the header.
+/// Serves the calls of a script of records. Record 0 of the script is its header.
 #[derive(Drop)]
 pub struct RecordServer {
     pub server: CallServer,
@@ -149,7 +146,7 @@ pub struct RecordServer {
 impl Judge for RecordServer {
     ghost State = { List Entry };
 
-    ghost stands = { λ records history. Stands untold records.server.room history };
+    ghost stands = { λ records history. Stands unrecorded records.server.room history };
 
     ghost step = { served Records };
 

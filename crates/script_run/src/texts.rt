@@ -6,8 +6,8 @@ use script_records::Form;
 use script_texts::{add_fault, add_record_fault};
 use sfu_base::{Blob, NoMemory};
 
-/// Appends the line `line N` or `record N` (N is `number`) to `ready`, the output so far. It says that this line or record of the script is outside
-/// the grammar. After `NoMemory` the output is unchanged.
+/// Appends a line of text to `ready`, the output so far. The text is `line N` or `record N`, where N is `number`. It says that line or record N of
+/// the script is outside the grammar. After `NoMemory` the output is unchanged.
 #[cold]
 #[inline(never)]
 pub fn add_unit_fault(form: Form, number: u64, ready: &mut Blob) -> Result<(), NoMemory>

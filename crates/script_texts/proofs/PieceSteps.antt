@@ -23,11 +23,11 @@ put_more xs i d out spaced now all lt a b so_far =
 one_longer : (out spaced : List ℕ) → spaced ≡ out ++ 32 ∷ [] → length spaced ≡ length out + 1
 one_longer out spaced e = ap length e ∙ length-append out (32 ∷ [])
 
-pub room_here : (xs : List Piece) (i : ℕ) (d : Piece) (out spaced : List ℕ) → i < length xs → spaced ≡ out ++ 32 ∷ []
+pub capacity_here : (xs : List Piece) (i : ℕ) (d : Piece) (out spaced : List ℕ) → i < length xs → spaced ≡ out ++ 32 ∷ []
     → length out + pieces_size (drop i xs) ≤ 2048 → length spaced + piece_size (get_or xs i d) ≤ 2048
-room_here xs i d out spaced lt e room = omega (arith, size_more xs i d lt, one_longer out spaced e)
+capacity_here xs i d out spaced lt e capacity = omega (arith, size_more xs i d lt, one_longer out spaced e)
 
-pub room_after : (xs : List Piece) (i : ℕ) (d : Piece) (out spaced now : List ℕ) → i < length xs → spaced ≡ out ++ 32 ∷ []
+pub capacity_after : (xs : List Piece) (i : ℕ) (d : Piece) (out spaced now : List ℕ) → i < length xs → spaced ≡ out ++ 32 ∷ []
     → length now ≤ length spaced + piece_size (get_or xs i d) → length out + pieces_size (drop i xs) ≤ 2048
     → length now + pieces_size (drop (i + 1) xs) ≤ 2048
-room_after xs i d out spaced now lt e used room = omega (arith, size_more xs i d lt, one_longer out spaced e)
+capacity_after xs i d out spaced now lt e used capacity = omega (arith, size_more xs i d lt, one_longer out spaced e)

@@ -1,7 +1,7 @@
 -- The texts of replies, without their line end. Own rule.
 use Rattle.std.specs.Prelude.{ℕ, Bool, true, false, Option, Some, None, List, [], ◌∷◌, ◌++◌, map, codes, decimal}
 use Rattle.hex.specs.Hex.{IsBytes}
-use Rattle.sfu_base.specs.Answer.{Answer, Done, Sent, Named, KeyIs, Told, Refused}
+use Rattle.sfu_base.specs.Answer.{Answer, Done, Sent, Named, KeyIs, CauseIs, Refused}
 use Rattle.sfu_base.specs.declared.call.Reply.{Reply}
 use Rattle.sfu_base.specs.declared.call.Reply.TheVariants as reply
 use Rattle.sfu_base.specs.declared.call.Refusal.{Refusal}
@@ -70,7 +70,7 @@ answer_places Done = Word (codes "ok") ∷ []
 answer_places (Sent bytes) = Word (codes "packet") ∷ Hex bytes ∷ []
 answer_places (Named numbers) = Word (codes "missing") ∷ map (λ n. Number 16 n) numbers
 answer_places (KeyIs wanted) = Word (codes "key") ∷ Word (key_word wanted) ∷ []
-answer_places (Told verdict) = verdict_places verdict
+answer_places (CauseIs verdict) = verdict_places verdict
 answer_places (Refused why) = refusal_places why
 
 -- the text of an answer

@@ -46,7 +46,7 @@ fn append_complaint(line: u32, complaint: &Complaint, out: &mut Blob) -> Result<
     }
 }
 
-/// Appends `line N`, a space and the complaint, without a line end; N is `line`. On `NoMemory`, `out` is unchanged.
+/// Appends `line N`, a space and the complaint. N is the number `line`. Appends no line end. On `NoMemory`, `out` is unchanged.
 pub fn write_complaint(line: u32, complaint: &Complaint, out: &mut Blob) -> Result<(), NoMemory>
     ensures ok { OnOk result (out.new ≡ out.old ++ complaint_text line complaint.now) }
     ensures err { OnErr result (out.new ≡ out.old) }

@@ -20,8 +20,8 @@ fn append_end(session: u32, fault: Option<u64>, out: &mut Blob) -> Result<(), No
     }
 }
 
-/// Appends `session K all`, or `session K fault TURN` if the session's link failed in the turn TURN, without a line end. K is the
-/// session's number. On `NoMemory`, `out` is unchanged.
+/// Appends `session K all`, where K is the session's number. If the session's link failed in the turn TURN, appends `session K fault TURN` instead.
+/// Appends no line end. On `NoMemory`, `out` is unchanged.
 pub fn write_end(session: u32, fault: Option<u64>, out: &mut Blob) -> Result<(), NoMemory>
     ensures ok { OnOk result (out.new ≡ out.old ++ end_text session fault) }
     ensures err { OnErr result (out.new ≡ out.old) }

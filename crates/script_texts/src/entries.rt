@@ -24,8 +24,8 @@ fn append_entry(entry: &Entry, out: &mut Blob) -> Result<(), NoMemory>
     out.append(b"\n")
 }
 
-/// Appends the two lines of an entry, each with its line end. The first is `@K`, a space and the call's line, the second the reply. A
-/// packet must have at least one byte. On `NoMemory`, `out` is unchanged.
+/// Appends the two lines of an entry, each with its line end. The first line is `@K`, a space and the call, where K is the number of the entry's actor.
+/// The second line is the reply. If the call is a packet, the packet must have at least one byte. On `NoMemory`, `out` is unchanged.
 pub fn write_entry(entry: &Entry, out: &mut Blob) -> Result<(), NoMemory>
     requires { HasBytes entry.now.call }
     ensures ok { OnOk result (out.new ≡ out.old ++ entry_text entry.now) }

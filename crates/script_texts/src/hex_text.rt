@@ -60,8 +60,8 @@ impl<'a> Text for HexDigits<'a> {
         2 * self.bytes.len()
     }
 
-    fn write(&self, room: &mut [u8]) {
-        write_hex(self.bytes, room);
+    fn write(&self, out: &mut [u8]) {
+        write_hex(self.bytes, out);
     }
 }
 
@@ -79,12 +79,12 @@ impl<'a> Text for PacketLine<'a> {
         2 * self.bytes.len() + 8
     }
 
-    fn write(&self, room: &mut [u8]) {
-        write_line(self.bytes, room);
+    fn write(&self, out: &mut [u8]) {
+        write_line(self.bytes, out);
     }
 }
 
-/// Appends the bytes, at most 2,048, in lower-case hex digits. On `NoMemory`, `out` is unchanged.
+/// Appends the bytes in lower-case hex digits. There must be at most 2,048 bytes. On `NoMemory`, `out` is unchanged.
 pub fn append_hex(bytes: &[u8], out: &mut Blob) -> Result<(), NoMemory>
     requires { length bytes.now ≤ 2048 }
     ensures ok { OnOk result (out.new ≡ out.old ++ encode_lower bytes.now) }
@@ -93,7 +93,7 @@ pub fn append_hex(bytes: &[u8], out: &mut Blob) -> Result<(), NoMemory>
     out.write(&HexDigits { bytes })
 }
 
-/// Appends the line `packet HEX` of a packet, with its line end. On `NoMemory`, `out` is unchanged.
+/// Appends the line `packet HEX`, with its line end. HEX is the packet's bytes in lower-case hex digits. On `NoMemory`, `out` is unchanged.
 #[inline(never)]
 pub fn append_line(packet: &PacketBuf, out: &mut Blob) -> Result<(), NoMemory>
     ensures ok { OnOk result (out.new ≡ out.old ++ (answer_text (Sent packet.now) ++ 10 ∷ [])) }

@@ -4,10 +4,10 @@ ghost use Rattle.std.specs.Prelude.{◌≡◌};
 use sfu_base::{Blob, Call};
 use std::marker::Model;
 
-/// One call of a journal: the actor that made it, the call, and the text of its reply.
+/// One call of a journal, with the actor that made the call and the text of the reply.
 #[derive(Debug, Drop)]
 pub struct Entry {
-    /// The actor that made the call, 1 to 8; 0 for a call of the opening or the closing part.
+    /// The number of the actor that made the call, from 1 to 8. If the call is in the opening or closing part, the number is 0.
     pub actor: u8,
     pub call: Call,
     /// The text of the reply, without a line end.
@@ -30,7 +30,7 @@ impl Model for Calls {
 }
 
 impl Calls {
-    /// Returns the list of these calls.
+    /// Creates the list of these calls.
     pub fn of(calls: Vec<Call>) -> Calls
         ensures { result ≡ calls.items }
     {
@@ -49,12 +49,13 @@ impl Calls {
 #[derive(Debug, Drop)]
 pub struct Actors {
     pub opening: Calls,
-    /// The calls of each actor; index 0 is actor 1.
+    /// The calls of each actor. The calls of actor K are at index K - 1.
     pub actors: [Calls; 8],
     pub closing: Calls,
 }
 
-/// The calls of all actors, in the order of the history. Contracts see the list of its entries.
+/// All calls of a run, in the order in which the room served them. The calls of the opening and closing parts are included. Contracts see a `Journal` as
+/// the list of its entries.
 #[derive(Debug, Drop)]
 pub struct Journal {
     entries: Vec<Entry>,

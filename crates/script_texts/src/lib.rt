@@ -1,5 +1,5 @@
-//! The texts that scripts and commands write: lines of calls, replies, journals, complaints, the
-//! end of each session, and faults. A fault names the line or record that is outside the grammar.
+//! The texts of scripts and of the commands' output: the lines of calls, the replies, the journals, the complaints, the ends of sessions, and the faults.
+//! A fault names the line or record that is outside the grammar.
 #![tactic(auto)]
 
 mod byte_ranges;

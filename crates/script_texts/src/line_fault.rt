@@ -15,7 +15,7 @@ fn append_line_fault(line: u64, out: &mut Blob) -> Result<(), NoMemory>
     append_number(line, out)
 }
 
-/// Appends `line N` for the line with the number N, without a line end. On `NoMemory`, `out` is unchanged.
+/// Appends `line N`, where N is the number `line`. Appends no line end. On `NoMemory`, `out` is unchanged.
 pub fn write_line_fault(line: u64, out: &mut Blob) -> Result<(), NoMemory>
     ensures ok { OnOk result (out.new ≡ out.old ++ line_fault_text line) }
     ensures err { OnErr result (out.new ≡ out.old) }

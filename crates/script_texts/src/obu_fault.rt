@@ -15,7 +15,7 @@ fn append_obu(line: u32, out: &mut Blob) -> Result<(), NoMemory>
     append_pieces(&[Text(b"line"), Number(u64::from(line)), Text(b"obu")], out)
 }
 
-/// Appends `line N obu` for the line with the number N, without a line end. On `NoMemory`, `out` is unchanged.
+/// Appends `line N obu`, where N is the number `line`. Appends no line end. On `NoMemory`, `out` is unchanged.
 pub fn write_obu(line: u32, out: &mut Blob) -> Result<(), NoMemory>
     ensures ok { OnOk result (out.new ≡ out.old ++ obu_text line) }
     ensures err { OnErr result (out.new ≡ out.old) }

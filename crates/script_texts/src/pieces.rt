@@ -72,7 +72,7 @@ fn append_piece(piece: &Piece, out: &mut Blob) -> Result<(), NoMemory>
     }
 }
 
-/// Appends words with one space between them. On `NoMemory` a prefix of the text may have been appended.
+/// Appends the words, with one space between two words. On `NoMemory` a prefix of the text may have been appended.
 pub fn append_pieces(pieces: &[Piece], out: &mut Blob) -> Result<(), NoMemory>
     ensures ok { OnOk result (out.new ≡ out.old ++ pieces_text pieces.now) }
     ensures begun { GoesOn out.old out.new }

@@ -15,7 +15,7 @@ fn append_record_fault(number: u64, out: &mut Blob) -> Result<(), NoMemory>
     append_number(number, out)
 }
 
-/// Appends `record N` for the record with the number N, without a line end. On `NoMemory`, `out` is unchanged.
+/// Appends `record N`, where N is `number`. Appends no line end. On `NoMemory`, `out` is unchanged.
 pub fn write_record_fault(number: u64, out: &mut Blob) -> Result<(), NoMemory>
     ensures ok { OnOk result (out.new ≡ out.old ++ record_fault_text number) }
     ensures err { OnErr result (out.new ≡ out.old) }

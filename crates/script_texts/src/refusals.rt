@@ -38,7 +38,7 @@ fn refused_with<'a>(word: &'a [u8], what: Piece<'a>) -> Pieces<'a>
     Pieces::of(&[Text(b"refused"), Text(word), what])
 }
 
-/// Returns the words for a refusal and its reason.
+/// Returns the words with which a reply reports this refusal.
 pub fn refusal_pieces(why: &Refusal) -> Pieces<'static>
     ensures text { pieces_text result ≡ text_of (refusal_places why.now) }
     ensures within { AllWithin (refusal_places why.now) }

@@ -1,7 +1,7 @@
 // The texts of replies.
 ghost use Rattle.std.specs.Prelude.{◌≡◌, ◌++◌, map, OnErr, OnOk};
 ghost use Rattle.std.specs.List.{flat_map};
-ghost use Rattle.sfu_base.specs.Answer.{answer_of, Named, Refused, Sent, Told};
+ghost use Rattle.sfu_base.specs.Answer.{answer_of, Named, Refused, Sent, CauseIs};
 ghost use Rattle.script_texts.specs.Replies.{answer_text, HasText};
 ghost use Rattle.script_texts.specs.Texts.{GoesOn};
 
@@ -41,8 +41,8 @@ fn append_names(numbers: &[u16], out: &mut Blob) -> Result<(), NoMemory>
 // Out of line, as is the next function: the most frequent replies then need no stack space for words.
 #[inline(never)]
 fn append_cause(verdict: &Verdict, out: &mut Blob) -> Result<(), NoMemory>
-    ensures ok { OnOk result (out.new ≡ out.old ++ answer_text (Told verdict.now)) }
-    ensures says { HasText (Told verdict.now) }
+    ensures ok { OnOk result (out.new ≡ out.old ++ answer_text (CauseIs verdict.now)) }
+    ensures says { HasText (CauseIs verdict.now) }
     ensures begun { GoesOn out.old out.new }
 {
     append_pieces(verdict_pieces(verdict).words(), out)
@@ -73,7 +73,8 @@ fn append_reply(reply: &Reply, scratch: &Scratch, out: &mut Blob) -> Result<(), 
     }
 }
 
-/// Appends the text of a reply, without a line end. `scratch` has the reply's bytes and numbers. On `NoMemory`, `out` is unchanged.
+/// Appends the text of a reply, without a line end. If the reply is `Packet` or `Names`, `scratch` has the packet's bytes or the sequence numbers. On
+/// `NoMemory`, `out` is unchanged.
 pub fn write_reply(reply: &Reply, scratch: &Scratch, out: &mut Blob) -> Result<(), NoMemory>
     ensures ok { OnOk result (out.new ≡ out.old ++ answer_text (answer_of reply.now scratch.now.packet scratch.now.names)) }
     ensures says { OnOk result (HasText (answer_of reply.now scratch.now.packet scratch.now.names)) }

@@ -16,7 +16,7 @@ use sfu_base::{PacketBuf, Reply};
 fn put_number(number: u64, out: &mut PacketBuf)
     requires { length out.old + 20 ≤ 2048 }
     ensures text { out.new ≡ out.old ++ decimal number }
-    ensures room { length out.new ≤ length out.old + 20 }
+    ensures capacity { length out.new ≤ length out.old + 20 }
 {
     let mut digits = Buffer::new();
     out.append(digits.format(number).as_bytes());
@@ -25,7 +25,7 @@ fn put_number(number: u64, out: &mut PacketBuf)
 fn put_ssrc(ssrc: u32, out: &mut PacketBuf)
     requires { length out.old + 8 ≤ 2048 }
     ensures text { out.new ≡ out.old ++ encode_lower (to_be_bytes w32 ssrc) }
-    ensures room { length out.new ≡ length out.old + 8 }
+    ensures capacity { length out.new ≡ length out.old + 8 }
 {
     let mut digits = [0; 8];
     hex::encode_to_slice(ssrc.to_be_bytes(), &mut digits).unwrap();
@@ -35,7 +35,7 @@ fn put_ssrc(ssrc: u32, out: &mut PacketBuf)
 fn put_piece(piece: &Piece, out: &mut PacketBuf)
     requires { length out.old + piece_size piece.now ≤ 2048 }
     ensures text { out.new ≡ out.old ++ piece_word piece.now }
-    ensures room { length out.new ≤ length out.old + piece_size piece.now }
+    ensures capacity { length out.new ≤ length out.old + piece_size piece.now }
 {
     match piece {
         Piece::Text(text) => out.append(text),
@@ -58,7 +58,7 @@ fn put_pieces(pieces: &[Piece], out: &mut PacketBuf)
     }
 }
 
-/// Replaces the bytes of `out` with the text of a reply that is neither a packet nor numbers, without a line end. Allocates no memory.
+/// Replaces the bytes of `out` with the text of a reply, without a line end. The reply must not be `Packet` or `Names`. Allocates no memory.
 pub fn write_short(reply: &Reply, out: &mut PacketBuf)
     requires { IsShort reply.now }
     ensures text { (bytes numbers : List ℕ) → out.new ≡ answer_text (answer_of reply.now bytes numbers) }

@@ -3,7 +3,7 @@ ghost use Rattle.std.specs.Prelude.{◌≡◌, OnErr, OnOk, take};
 
 use sfu_base::{Blob, NoMemory};
 
-/// Returns the result of a writer that began at byte `start` of `out`. On `NoMemory` it removes all bytes from `start` on.
+/// Returns `written`, the result of a writer that began to append at index `start` of `out`. On `NoMemory`, first truncates `out` to `start` bytes.
 pub fn whole_or_nothing(
     written: Result<(), NoMemory>,
     start: usize,

@@ -9,7 +9,7 @@ use crate::pieces::Piece::{self, Number, Text};
 use crate::pieces::Pieces;
 use sfu_base::Verdict;
 
-/// Returns the number in decimal digits, or the word `none`.
+/// Returns one word: the number in decimal digits, or `none` if there is no number.
 pub fn number_or_none(number: Option<u64>) -> Piece<'static>
     ensures word { piece_word result ≡ word_of (or_none 64 number) }
     ensures within { IsWithin (or_none 64 number) }

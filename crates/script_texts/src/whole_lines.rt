@@ -8,14 +8,14 @@ use crate::hex_text::append_line;
 use crate::{write_line_fault, write_record_fault, write_reply};
 use sfu_base::{Blob, NoMemory, Refusal, Reply, Scratch};
 
-/// Returns whether a reply says that memory ran out. In that case a command ends, and writes no line for this reply.
+/// Returns whether a reply says that memory ran out. A command that gets such a reply ends, and writes no line for it.
 pub fn wants_memory(reply: &Reply) -> bool
     ensures { result ≡ is_starved reply.now }
 {
     matches!(reply, Reply::Refused(Refusal::NoMemory))
 }
 
-/// Appends a line end to the text that begins at byte `start` of `ready`. On `NoMemory` it removes that text.
+/// Appends a line end to the text that begins at byte `start` of `ready`. On `NoMemory`, removes that text.
 pub fn end_line(start: usize, ready: &mut Blob) -> Result<(), NoMemory>
     ensures ok { OnOk result (ready.new ≡ ready.old ++ 10 ∷ []) }
     ensures err { OnErr result (ready.new ≡ take start ready.old) }
@@ -27,7 +27,7 @@ pub fn end_line(start: usize, ready: &mut Blob) -> Result<(), NoMemory>
     Ok(())
 }
 
-/// Appends the line of a reply to `ready`. On `NoMemory`, `ready` is unchanged. Inlined, since most callers know the kind of reply.
+/// Appends the line of a reply to `ready`. On `NoMemory`, `ready` is unchanged. This function is inlined, because most callers know the kind of reply.
 #[inline(always)]
 pub fn add_reply(reply: &Reply, scratch: &Scratch, ready: &mut Blob) -> Result<(), NoMemory>
     ensures ok { OnOk result (ready.new ≡ ready.old ++ (answer_text (answer_of reply.now scratch.now.packet scratch.now.names) ++ 10 ∷ [])) }
@@ -52,8 +52,8 @@ fn add_other_reply(reply: &Reply, scratch: &Scratch, ready: &mut Blob) -> Result
     end_line(start, ready)
 }
 
-/// Appends to `ready` the line `line N` for N = `number`, which says that line
-/// N of the input is outside the grammar. On `NoMemory`, `ready` is unchanged.
+/// Appends the line `line N` to `ready`, where N is `number`. This line means that line N of the input is outside the grammar. On `NoMemory`, `ready` is
+/// unchanged.
 pub fn add_fault(number: u64, ready: &mut Blob) -> Result<(), NoMemory>
     ensures ok { OnOk result (ready.new ≡ ready.old ++ fault_line number) }
     ensures err { OnErr result (ready.new ≡ ready.old) }
@@ -63,8 +63,8 @@ pub fn add_fault(number: u64, ready: &mut Blob) -> Result<(), NoMemory>
     end_line(start, ready)
 }
 
-/// Appends to `ready` the line `record N` for N = `number`, which says that record
-/// N of the input is outside the grammar. On `NoMemory`, `ready` is unchanged.
+/// Appends the line `record N` to `ready`, where N is `number`. This line means that record N of the input is outside the grammar. On `NoMemory`, `ready`
+/// is unchanged.
 pub fn add_record_fault(number: u64, ready: &mut Blob) -> Result<(), NoMemory>
     ensures ok { OnOk result (ready.new ≡ ready.old ++ record_fault_line number) }
     ensures err { OnErr result (ready.new ≡ ready.old) }

@@ -151,8 +151,8 @@ pub fn append_call(call: &Call, out: &mut Blob) -> Result<(), NoMemory>
     }
 }
 
-/// Appends the line of a call, without a line end. A packet is written in lower-case hex digits, and must have at least one byte.
-/// On `NoMemory`, `out` is unchanged.
+/// Appends the line of a call, without a line end. If the call is a packet, the packet is written in lower-case hex digits. It must have at least one
+/// byte. On `NoMemory`, `out` is unchanged.
 pub fn write_call(call: &Call, out: &mut Blob) -> Result<(), NoMemory>
     requires { HasBytes call.now }
     ensures ok { OnOk result (out.new ≡ out.old ++ line_of call.now) }

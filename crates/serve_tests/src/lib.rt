@@ -1,6 +1,6 @@
 #![tactic(auto)]
-//! Tests of `session_steps` and `sfu_serve`: sessions step by step on a room of one thread, a room behind a lock, sessions
-//! over links in memory, and concurrent sessions. The tests aren't in those crates, since a crate with tests is proved twice.
+//! Tests of `session_steps` and `sfu_serve`: sessions that run step by step in one thread, a room behind a lock, sessions over links in memory, and
+//! concurrent sessions. The tests aren't in those two crates, because a crate with tests is proved twice.
 
 #[cfg(test)]
 mod rtx_tests;

@@ -1,4 +1,4 @@
-//! Tests of concurrent sessions, over links in memory and over calm links.
+//! Tests of concurrent sessions, over links in memory and over calm links. A calm link receives nothing and discards what is sent.
 
 use crate::session_tests::{NACK, SSRC, has_sent, link, room_after, rtp};
 use crate::shared_room_tests::publish;

@@ -32,7 +32,8 @@ pub fn room_after<W: Wait + Sync>(
     Ok((turns, seat))
 }
 
-/// Returns a link that receives these datagrams. The receives and sends with these indices, counted from 0, fail.
+/// Returns a link that receives these datagrams. The receives with the indices `receive_fails` and the sends with the indices `send_fails` fail. Indices
+/// begin at 0.
 pub fn link(
     alloc: Global,
     datagrams: &[&[u8]],
@@ -55,7 +56,7 @@ pub fn link(
     ))
 }
 
-/// An RTP packet with this number, SSRC 11111111 and the payload aabb (RFC 3550, section 5.1).
+/// An RTP packet (RFC 3550, section 5.1) with this sequence number. Its SSRC is 0x11111111, and its payload is 0xaabb.
 pub fn rtp(number: u16) -> [u8; 14] {
     let [high, low] = number.to_be_bytes();
     [
@@ -63,7 +64,7 @@ pub fn rtp(number: u16) -> [u8; 14] {
     ]
 }
 
-/// The packet of `rtp` as it is sent to subscriber 1.
+/// The packet `rtp(number)` as it is sent to subscriber 1.
 pub fn outgoing(number: u16) -> [u8; 14] {
     let [high, low] = number.to_be_bytes();
     [
@@ -84,7 +85,7 @@ pub fn has_sent(link: &MemLink, wanted: &[&[u8]]) -> bool {
     true
 }
 
-/// A generic NACK for packet 1001 (RFC 4585, section 6.2.1).
+/// A generic NACK for the packet with sequence number 1001 (RFC 4585, section 6.2.1).
 pub const NACK: [u8; 16] = [
     0x81, 0xcd, 0, 3, 0, 0, 0, 1, 0x11, 0x11, 0x11, 0x11, 0x03, 0xe9, 0, 0,
 ];
@@ -206,7 +207,7 @@ struct MovingLink<'a> {
 }
 
 impl<'a> Link for MovingLink<'a> {
-    ghost told = { λ s. ⟦<MemLink as Link>⟧.told s.inner };
+    ghost traffic = { λ s. ⟦<MemLink as Link>⟧.traffic s.inner };
 
     ghost name = { λ s. ⟦<MemLink as Link>⟧.name s.inner };
 

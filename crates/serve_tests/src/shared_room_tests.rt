@@ -1,8 +1,8 @@
-//! Tests of a room behind the lock, used by the seats of one thread and of two threads.
+//! Tests of a room behind the lock. In some tests one thread uses the lock's seats, and in others two threads use them.
 ghost use Rattle.std.specs.Prelude.{◌≡◌, []};
 
 use room_core::{KeepNone, Room};
-use sfu_base::{Call, Kind, PacketBuf, Refusal, Reply, Scratch, SeqList, Wish};
+use sfu_base::{Call, Kind, PacketBuf, Refusal, Reply, Scratch, Wish};
 use sfu_serve::SharedRoom;
 use std::alloc::Global;
 use std::sync::Wait;
@@ -26,10 +26,7 @@ pub(crate) fn empty_room(alloc: Global) -> Shared
 }
 
 pub(crate) fn empty_scratch() -> Scratch {
-    Scratch {
-        packet: PacketBuf::new(),
-        names: SeqList::new(),
-    }
+    Scratch::new()
 }
 
 pub(crate) fn publish() -> Call {

@@ -1,4 +1,5 @@
-//! Sessions step by step, on a room of one thread, as in the loop of a server with its own room and sockets. Nothing here locks or waits.
+//! Tests of sessions that run step by step on a room of one thread, as in the loop of a server with its own room and sockets. These tests take no lock
+//! and never wait.
 ghost use Rattle.std.specs.Prelude.{ℕ, List, OnOk};
 ghost use Rattle.room_core.specs.History.{Entry};
 ghost use Rattle.room_core.specs.Serves.{Stands};

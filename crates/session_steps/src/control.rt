@@ -10,11 +10,12 @@ use sfu_script::{read_call, write_short};
 /// The reply to a datagram that isn't a control line.
 const FAULT_LINE: &[u8] = b"fault line";
 
-/// The session of a controller. A datagram is a call if it is one line of publish, unpublish, join, leave, aim, key, plead or why, without
-/// a line end. The session sends the text of the call's reply, also without a line end. The reply to any other datagram is `fault line`.
+/// The session of a controller. A controller sends calls: each datagram is one publish, unpublish, join, leave, aim, key, plead or why line, without a
+/// line end. The session makes the call and sends the text of the reply, also without a line end. The session sends the text `fault line` as the reply
+/// to any other datagram.
 #[derive(Debug, Drop)]
 pub struct ControlSession {
-    /// The call of the last line, until its reply is sent.
+    /// The call that was read from the last datagram, until the call's reply is sent.
     said: Option<Call>,
     ghost control: { if_control said ≡ said },
 }
@@ -47,7 +48,7 @@ impl ControlSession {
     ghost use Rattle.session_steps.specs.Controlling.{controlling};
     ghost use Rattle.session_steps.specs.Stepping.{Waits};
 
-    /// Returns the session of a controller, before its first datagram.
+    /// Returns a controller's session that has received no datagram yet.
     pub fn new() -> ControlSession
         ensures left { (turns : ℕ) → controlling result.said turns ≡ control_deed turns }
         ensures waits { (turns : ℕ) → Waits (controlling result.said turns) turns }

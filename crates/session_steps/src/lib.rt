@@ -1,8 +1,8 @@
-//! The sessions that publishers, subscribers and controllers have with a room, as state machines without input and output.
+//! The sessions that publishers, subscribers and controllers have with a room, as state machines that do no I/O.
 //!
-//! A session has no lock, no socket and no clock. Its caller passes in each datagram and its time, makes
-//! the calls that the session returns, and sends the datagrams that the session puts into the scratch.
-//! So a server with its own sockets runs a session in one loop, on a room that it owns or shares:
+//! A session has no lock, no socket and no clock. The caller passes in each datagram and the time, makes the calls that the session returns, and sends
+//! the datagrams that the session puts into `scratch.packet`. A server that has its own sockets, and owns or shares a room, can run a session in one
+//! loop:
 //!
 //! ```text
 //! loop {
@@ -21,8 +21,8 @@
 //! }
 //! ```
 //!
-//! By the contract of [`Session`], such a loop makes exactly the calls, and sends exactly
-//! the datagrams, that the session's rule (`specs/Sessions.antt`) names, in order.
+//! The session's rule (`specs/Sessions.antt`) names calls and datagrams, in order. By the contract of [`Session`], such a loop makes exactly these
+//! calls and sends exactly these datagrams, in this order.
 #![tactic(auto)]
 
 mod control;

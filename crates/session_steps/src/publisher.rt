@@ -13,7 +13,7 @@ use rtcp_feedback::{write_nack, write_pli};
 use sfu_base::{Call, PacketBuf, Reply, Scratch};
 use sfu_script::{set_packet, set_tick};
 
-/// The SSRC of the sender of the RTCP feedback.
+/// The packet sender's SSRC in the RTCP feedback (RFC 4585, section 6.1).
 const SENDER: u32 = 1;
 
 /// The least time between two turns that request missing packets, in milliseconds.
@@ -27,27 +27,27 @@ const PLIS_APART: u64 = 500;
 enum Next {
     /// Wait for the next datagram.
     Datagram,
-    /// Make the call with the packet that came.
+    /// Make the call with the packet that was received.
     Packet,
-    /// Make the tick at this turn's moment.
+    /// Make the tick call, with the moment of this turn.
     Tick,
-    /// Make the call for the list of missing packets. The call about a key frame follows it.
+    /// Make the call for the list of missing packets. The next step is `KeyWanted`.
     Missing,
-    /// Make the call about whether a key frame is wanted.
+    /// Make the call that asks whether a key frame is wanted.
     KeyWanted,
 }
 
-/// The session of a publisher of one track. In each turn it adds the received RTP packet, if any, to the track, and then
-/// ticks the track. In the first turn, and then at intervals of at least 20 milliseconds, it asks the room which packets
-/// are missing and whether a key frame is wanted. One NACK names all missing packets (RFC 4585, section 6.2.1). For a
-/// wanted key frame it sends a picture loss indication (section 6.3.1), at least 500 milliseconds after the last one.
+/// The session of a publisher of one track. In each turn it adds the received RTP packet, if any, to the track, and then ticks the track. In the first
+/// turn, and then at intervals of at least 20 milliseconds, it asks the room which packets are missing and whether a key frame is wanted. One NACK
+/// names all missing packets (RFC 4585, section 6.2.1). If a key frame is wanted, the session sends a picture loss indication (section 6.3.1), unless
+/// it sent the last one less than 500 milliseconds ago.
 ///
-/// The session reuses its calls from turn to turn: a [`Call`] has a buffer for a packet, which a new call would have to clear.
+/// The session reuses its calls from turn to turn. A [`Call`] has a packet buffer, and creating a new call would mean clearing that buffer.
 #[derive(Debug, Drop)]
 pub struct PublisherSession {
     track: u32,
     ssrc: u32,
-    /// The moment of the last turn that made the calls about missing packets and a key frame.
+    /// The moment of the last turn that asked about missing packets and a key frame.
     asked: Option<u64>,
     /// The moment of the last picture loss indication sent.
     pleaded: Option<u64>,
@@ -72,7 +72,7 @@ fn is_due(apart: u64, moment: u64, last: Option<u64>) -> bool
     }
 }
 
-/// Returns whether an RTP packet was received: a datagram that isn't RTCP.
+/// Returns whether an RTP packet was received. Any datagram that isn't RTCP counts as an RTP packet.
 fn is_packet(came: bool, datagram: &PacketBuf) -> bool
     ensures { result ≡ (came && not (is_rtcp datagram.now)) }
 {
@@ -94,7 +94,7 @@ fn nack(ssrc: u32, reply: Reply, scratch: &mut Scratch) -> Output
     Output::Packet
 }
 
-/// If a key frame is wanted and a picture loss indication is due, writes one and records its moment.
+/// If a key frame is wanted and a picture loss indication is due, writes the indication and records its moment.
 fn plead(
     ssrc: u32,
     moment: u64,
@@ -122,7 +122,7 @@ fn plead(
 impl PublisherSession {
     ghost use Rattle.session_steps.specs.Publishing.{publishing};
 
-    /// Returns the session of the publisher of a track, before its first datagram. `ssrc` is the SSRC of the packets that the publisher sends.
+    /// Returns the session of a track's publisher. The session has received no datagram yet. `ssrc` is the SSRC of the packets that the publisher sends.
     pub fn new(track: u32, ssrc: u32) -> PublisherSession
         ensures left { (turns : ℕ) → publishing result turns ≡ publisher_deed track ssrc turns None None }
         ensures waits { (turns : ℕ) → Waits (publishing result turns) turns }

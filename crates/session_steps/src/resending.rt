@@ -10,7 +10,8 @@ use crate::session::Output;
 use rtx_stream::{Rtx, wrap};
 use sfu_base::{PacketBuf, Reply, Scratch};
 
-/// Replaces a packet by its retransmission with this number on the stream `rtx`. It isn't inlined, so that the second buffer is cleared only when it is used.
+/// Replaces a packet by its retransmission on the stream `rtx`, with the sequence number `number` there. Out of line: the second buffer is then
+/// cleared only when it is used.
 #[inline(never)]
 fn wrap_over(rtx: Rtx, number: u16, packet: &mut PacketBuf)
     requires payload_type { rtx.payload_type < 128 }
@@ -22,7 +23,8 @@ fn wrap_over(rtx: Rtx, number: u16, packet: &mut PacketBuf)
     *packet = wrapped;
 }
 
-/// Replaces a packet by its retransmission: with an RTX stream, the packet wrapped with this number; without one, the packet as it was first sent.
+/// Replaces a packet by its retransmission. With an RTX stream, that is the packet wrapped with the sequence number `number`. Without one, it is the
+/// packet as it was first sent.
 pub(crate) fn make_retransmission(rtx: Option<Rtx>, number: u16, packet: &mut PacketBuf)
     requires payload_type { IfSome rtx (λ stream. stream.payload_type < 128) }
     requires sendable { CanBeWrapped packet.old }
@@ -33,8 +35,8 @@ pub(crate) fn make_retransmission(rtx: Option<Rtx>, number: u16, packet: &mut Pa
     }
 }
 
-/// Outputs the retransmission of the packet that a resend returned, if it returned one. `number`
-/// is the number of the next retransmission. Each output increases it by 1, modulo 65,536.
+/// If a resend call returned a packet, outputs the retransmission of this packet. `number` is the sequence number of the next retransmission. Each
+/// output increases `number` by 1, modulo 65,536.
 pub(crate) fn resend(
     rtx: Option<Rtx>,
     number: &mut u16,

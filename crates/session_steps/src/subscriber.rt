@@ -15,7 +15,7 @@ use rtcp_feedback::{Feedback, FeedbackQueue};
 use rtx_stream::Rtx;
 use sfu_base::{Call, PacketBuf, Reply, Scratch};
 
-/// The greatest number of packets that a turn takes.
+/// The most packets that a session takes in one turn.
 const MOST_TAKES: u32 = 32;
 
 /// The next step of a subscriber's session.
@@ -25,23 +25,23 @@ enum Next {
     Datagram,
     /// Make the call for an item of feedback.
     Feedback,
-    /// Make a take. At most `behind` further takes follow in this turn.
+    /// Make a take call. At most `behind` more take calls follow in this turn.
     Take { behind: u32 },
 }
 
-/// The session of a subscriber. In each turn it serves the RTCP feedback that came, item by item. For each packet that a NACK names (RFC 4585,
-/// section 6.2.1) it requests a resend and sends the retransmission. For a picture loss indication (section 6.3.1) it requests a key frame.
-/// Items whose media source isn't the subscriber's SSRC are skipped. Then it takes packets and sends them, until a take returns none or
-/// 32 were taken.
+/// The session of a subscriber. In each turn it serves the RTCP feedback that came, item by item. For each packet that a NACK names (RFC 4585, section
+/// 6.2.1) it requests a resend and sends the retransmission. For a picture loss indication (section 6.3.1) it requests a key frame. Items whose media
+/// source isn't the subscriber's SSRC are skipped. After the feedback, the session takes packets and sends them. It stops when a take returns no
+/// packet, or after 32 packets.
 ///
-/// The session reuses its calls from turn to turn: a [`Call`] has a buffer for a packet, which a new call would have to clear.
+/// The session reuses its calls from turn to turn. A [`Call`] has a packet buffer, and creating a new call would mean clearing that buffer.
 #[derive(Debug, Drop)]
 pub struct SubscriberSession {
     subscriber: u32,
     ssrc: u32,
     /// The retransmission stream. If it is `None`, a retransmission is the packet as it was first sent.
     rtx: Option<Rtx>,
-    /// The sequence number of the next retransmission on that stream.
+    /// The sequence number of the next retransmission on the stream `rtx`.
     number: u16,
     /// The items of this turn's feedback that aren't served yet.
     feedback: FeedbackQueue,
@@ -72,7 +72,8 @@ fn media(item: Feedback) -> u32
     }
 }
 
-/// Fills the queue with the feedback that was received. The queue is empty if no datagram came, the datagram isn't RTCP, or the RTCP has a fault.
+/// Fills the queue with the feedback that was received. The queue is empty afterwards if no datagram was received, if the datagram isn't RTCP, or if
+/// its RTCP has a fault.
 fn read_feedback(feedback: &mut FeedbackQueue, came: bool, datagram: &PacketBuf)
     ensures { feedback.new ≡ (if came then feedback_in datagram.now else []) }
 {
@@ -86,7 +87,7 @@ fn read_feedback(feedback: &mut FeedbackQueue, came: bool, datagram: &PacketBuf)
     let _fault = feedback.fill(bytes);
 }
 
-/// Removes and returns the next item of feedback on this SSRC, if there is one. Drops the items on other SSRCs before it.
+/// Removes and returns the next item of feedback whose media source is `ssrc`, if there is one. Drops the items before it, which are on other SSRCs.
 fn next_item(feedback: &mut FeedbackQueue, ssrc: u32) -> Option<Feedback>
     ensures serves { (subscriber number : ℕ) (rtx : Option RtxData) (next : ℕ → Doing) → MatchOption result
         (serves subscriber ssrc rtx feedback.old number next ≡ next number)
@@ -106,9 +107,9 @@ impl SubscriberSession {
     ghost use Rattle.session_steps.specs.declared.subscriber.SubscriberSession.{SubscriberSession as SubscriberData};
     ghost use Rattle.session_steps.specs.Subscribing.{calls_at, subscribing, subscribing_at, subscribing_calls, then_takes};
 
-    /// Returns the session of a subscriber, before its first datagram. `ssrc` is the SSRC of the media sent to the
-    /// subscriber. With a stream `rtx` (RFC 4588), retransmissions are sent on this stream, numbered 0, 1 and so on
-    /// modulo 65,536; its payload type is below 128. Without `rtx`, a retransmission is the packet as it was first sent.
+    /// Returns a subscriber's session that has received no datagram yet. `ssrc` is the SSRC of the media sent to the subscriber. If `rtx` is a stream
+    /// (RFC 4588), retransmissions are sent on this stream. Their sequence numbers there are 0, 1, 2 and so on, modulo 65,536. The stream's payload
+    /// type must be below 128. Without `rtx`, a retransmission is the packet as it was first sent.
     pub fn new(subscriber: u32, ssrc: u32, rtx: Option<Rtx>) -> SubscriberSession
         requires payload_type { IfSome rtx (λ stream. stream.payload_type < 128) }
         ensures left { (turns : ℕ) → subscribing result turns ≡ outgoing_deed subscriber ssrc rtx turns 0 }
@@ -126,7 +127,7 @@ impl SubscriberSession {
         }
     }
 
-    /// Returns the next step if `left` takes remain in this turn.
+    /// Returns the next step after the feedback or after a take. At most `left` takes remain in this turn.
     fn next_take(left: u32) -> Next
         ensures left { (s : SubscriberData) (turns : ℕ) → subscribing_at result s turns ≡ takes s.subscriber left (outgoing_deed s.subscriber s.ssrc s.rtx turns s.number) }
         ensures calls { (items : ℕ) → calls_at result items ≡ left }
@@ -138,7 +139,7 @@ impl SubscriberSession {
         }
     }
 
-    /// Goes on to the next item of feedback on the subscriber's SSRC; if none is left, to the takes.
+    /// Goes on to the next item of feedback on the subscriber's SSRC. If none is left, goes on to the takes.
     fn advance(&mut self)
         ensures left { (turns : ℕ) → subscribing self.new turns ≡ serves self.old.subscriber self.old.ssrc self.old.rtx self.old.feedback self.old.number (then_takes self.old turns) }
         ensures fewer { subscribing_calls self.new ≤ length self.old.feedback + 32 }

@@ -15,7 +15,7 @@ no_traffic = record { received = []; sent = [] }
 -- the record with these receives and these sent datagrams appended, if the link keeps a record
 abbrev pub with_more : List (Option (List ℕ)) → List (List ℕ) → Option Traffic → Option Traffic
 with_more received sent None = None
-with_more received sent (Some told) = Some (record { received = told.received ++ received; sent = told.sent ++ sent })
+with_more received sent (Some traffic) = Some (record { received = traffic.received ++ received; sent = traffic.sent ++ sent })
 
 -- what a receive returned: the bytes of the buffer, or none
 abbrev pub datagram : Bool → List ℕ → Option (List ℕ)
@@ -23,13 +23,13 @@ datagram came bytes = if came then Some bytes else None
 
 -- a receive is appended to the record; a failed one changes nothing
 abbrev pub after_receive : {E : Type 0} → Result Bool E → List ℕ → Option Traffic → Option Traffic
-after_receive (Ok came) bytes told = with_more (datagram came bytes ∷ []) [] told
-after_receive (Err why) bytes told = told
+after_receive (Ok came) bytes traffic = with_more (datagram came bytes ∷ []) [] traffic
+after_receive (Err why) bytes traffic = traffic
 
 -- a sent datagram is appended to the record; a failed send changes nothing
 abbrev pub after_send : {T E : Type 0} → Result T E → List ℕ → Option Traffic → Option Traffic
-after_send (Ok done) bytes told = with_more [] (bytes ∷ []) told
-after_send (Err why) bytes told = told
+after_send (Ok done) bytes traffic = with_more [] (bytes ∷ []) traffic
+after_send (Err why) bytes traffic = traffic
 
 -- a receive changes its buffer only if a datagram came
 abbrev pub FillsOnlyWhere : {E : Type 0} → Result Bool E → List ℕ → List ℕ → Type 0

@@ -11,12 +11,12 @@ after_bind (Err why) count = count
 
 -- a port that comes back is appended to the recorded list
 abbrev pub after_back : {P : Type 0} → P → Option (List P) → Option (List P)
-after_back port told = option_map (λ ports. ports ++ port ∷ []) told
+after_back port returned = option_map (λ ports. ports ++ port ∷ []) returned
 
 -- a link that records nothing, or whose record is still empty
-abbrev pub tells_nothing_yet : Option Traffic → Type 0
-tells_nothing_yet None = Unit {0}
-tells_nothing_yet (Some told) = told ≡ no_traffic
+abbrev pub has_no_traffic_yet : Option Traffic → Type 0
+has_no_traffic_yet None = Unit {0}
+has_no_traffic_yet (Some traffic) = traffic ≡ no_traffic
 
 -- The count never falls, and rises exactly when the port that came back has faults of its own.
 pub record CountsBack (own before now : ℕ) : Type 0 where
@@ -60,7 +60,7 @@ came_back ports port =
     }
 
 -- no more ports came back than were bound, at most 64 are bound, and capacity for 64 is reserved
-pub record HaveRoom (back bound places : ℕ) : Type 0 where
+pub record HaveCapacity (back bound places : ℕ) : Type 0 where
   pub within : back ≤ bound
   pub limited : bound ≤ 64
   pub reserved : 64 ≤ places

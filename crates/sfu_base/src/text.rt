@@ -11,7 +11,7 @@ pub trait Text {
         ensures { result ≡ length (text self.now) };
 
     /// Overwrites the whole slice with the text. The slice must have the text's length.
-    fn write(&self, room: &mut [u8])
-        requires { length room.old ≡ length (text self.now) }
-        ensures { room.new ≡ text self.now };
+    fn write(&self, out: &mut [u8])
+        requires { length out.old ≡ length (text self.now) }
+        ensures { out.new ≡ text self.now };
 }

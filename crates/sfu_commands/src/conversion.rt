@@ -47,7 +47,7 @@ impl Judge for Converter {
     }
 }
 
-/// Converts a script of lines to a script of records: writes the header, and a record for each call. Returns the status.
+/// Converts a script of lines to a script of records: writes the header, and a record for each call. Returns the command's status.
 pub fn convert<S: Source, K: Sink>(alloc: Global, source: &mut S, sink: &mut K) -> Status
     ensures converts { Converts (exchange_of S.left S.faults K.written K.faults source.old source.new sink.old sink.new) (number_of result) }
     ensures only { IsConvertStatus (number_of result) }

@@ -4,7 +4,7 @@ ghost use Rattle.sfu_commands.specs.IdWords.{IsWithId};
 
 use sfu_script::{Field, NoLine, read_fields};
 
-/// Returns the header extension id, 1 to 255, if two arguments are the command `name` and an id; otherwise returns `None`.
+/// If `word` is the command `name`, and `id` is a header extension id from 1 to 255, returns this id. Otherwise returns `None`.
 pub fn read_id(name: &str, word: &str, id: &str) -> Option<u8>
     ensures { MatchOption result ((number : ℕ) → ¬ (IsWithId name.now (word.now ∷ id.now ∷ []) number))
         (λ number. IsWithId name.now (word.now ∷ id.now ∷ []) number) }

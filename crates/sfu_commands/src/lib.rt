@@ -1,5 +1,5 @@
-//! The single-threaded commands that need no room: how each uses its source and its sink, and the
-//! status that it returns. Also reads the command-line arguments of all single-threaded commands.
+//! The single-threaded commands that need no room: how each command uses its source and its sink, and which status it returns. Also reads the
+//! command-line arguments of all single-threaded commands.
 #![tactic(auto)]
 
 mod conversion;

@@ -58,7 +58,7 @@ fn add_counts(packets: u64, frames: u64, ready: &mut Blob) -> Result<(), NoMemor
 }
 
 impl PacketJudge {
-    /// Returns a judge before its first packet; `id` is the header extension id of the descriptors.
+    /// Returns a judge that has received no packet yet. `id` is the header extension id of the dependency descriptors.
     pub fn new(alloc: Global, id: u8) -> Result<PacketJudge, NoMemory>
         ensures { IfOk result (λ judge. HasReceived judge.receiver (nothing_received id)) }
     {
@@ -108,7 +108,8 @@ impl Judge for PacketJudge {
 }
 
 // Out of line: the loop of `run` then keeps its counts in registers.
-/// Checks the packets of the source's lines with a strict receiver. `id` is the header extension id of the descriptors. Returns the status.
+/// Checks the packets of the source's lines with a strict receiver. `id` is the header extension id of the dependency descriptors. Returns the
+/// command's status.
 #[inline(never)]
 pub fn check<S: Source, K: Sink>(alloc: Global, id: u8, source: &mut S, sink: &mut K) -> Status
     ensures checks { Checks id (exchange_of S.left S.faults K.written K.faults source.old source.new sink.old sink.new) (number_of result) }

@@ -34,7 +34,7 @@ fn add_obu(number: u32, ready: &mut Blob) -> Result<(), NoMemory>
 }
 
 impl PacketRecorder {
-    /// Returns a judge before its first packet; `id` is the header extension id of the descriptors.
+    /// Returns a recorder that has received no packet yet. `id` is the header extension id of the dependency descriptors.
     pub fn new(alloc: Global, id: u8) -> Result<PacketRecorder, NoMemory>
         ensures { IfOk result (λ judge. HasRecorded judge.recorder (nothing_received id)) }
     {
@@ -100,7 +100,8 @@ impl Judge for PacketRecorder {
     }
 }
 
-/// Records the packets of the source's lines as an IVF file. `id` is the header extension id of the descriptors. Returns the status.
+/// Records the packets of the source's lines as an IVF file. `id` is the header extension id of the dependency descriptors. Returns the command's
+/// status.
 #[inline(never)]
 pub fn record<S: Source, K: Sink>(alloc: Global, id: u8, source: &mut S, sink: &mut K) -> Status
     ensures records { Records id (exchange_of S.left S.faults K.written K.faults source.old source.new sink.old sink.new) (number_of result) }

@@ -31,7 +31,7 @@ fn number(word: &str) -> Option<u64>
     }
 }
 
-/// Returns the parameters if four arguments are the command `command` with its parameters; otherwise returns `None`.
+/// Returns the parameters if `name` is `command` and the three other words are valid parameters; otherwise returns `None`.
 pub fn read_stream(
     command: &str,
     name: &str,

@@ -15,16 +15,17 @@ pub enum Command {
     Help,
     /// Converts a script of lines to a script of records.
     Convert,
-    /// Serves a script whose lines may also be calls on bundles. `sfu_program` implements it, since this crate doesn't depend on bundles.
+    /// Serves a script whose lines may also be calls on bundles. The crate `sfu_program` implements this command, since `sfu_commands` doesn't depend
+    /// on bundles.
     Simulcast,
-    /// Checks packets with a strict receiver. The number is the header extension id of their descriptors.
+    /// Checks packets with a strict receiver. The number is the header extension id of the packets' dependency descriptors.
     Check(u8),
-    /// Records packets as an IVF file. The number is the header extension id of their descriptors.
+    /// Records packets as an IVF file. The number is the header extension id of the packets' dependency descriptors.
     Record(u8),
     /// Sends a generated stream to three subscribers, and writes what strict receivers find in their packets. The stream has `frames` frames; about
     /// `loss` percent of its packets are lost; `start` seeds the random generator.
     Trial { frames: u32, start: u64, loss: u8 },
-    /// Sends such a stream through two rooms. The second room is fed from the first, and has the three subscribers.
+    /// Sends a generated stream, as `Trial` does, but through two rooms. The second room is fed from the first, and has the three subscribers.
     Cascade { frames: u32, start: u64, loss: u8 },
 }
 
@@ -72,7 +73,7 @@ fn read_four(name: &str, frames: &str, start: &str, loss: &str) -> Option<Comman
     }
 }
 
-/// Reads the command-line arguments `words` as a command. Returns `None` exactly if they aren't one.
+/// Reads the command-line arguments `words` as a command. Returns `None` if they aren't a command, and only then.
 pub fn read_words(words: &[String]) -> Option<Command>
     ensures { Reads (map string_bytes words.now) result }
 {

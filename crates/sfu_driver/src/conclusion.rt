@@ -26,8 +26,8 @@ pub fn answer<C: Cut, J: Judge, S: Source, K: Sink>(
     Status::of(drive(alloc, units, source, sink))
 }
 
-/// Does the same as [`answer`] for an input whose first `first` bytes were read
-/// before, into the start of `piece`. `first` is 0 only if the input has ended.
+/// Does the same as [`answer`] if the first `first` bytes of the input were already read into the start of `piece`. `first` is 0 only if the input has
+/// ended.
 pub fn answer_behind<C: Cut, J: Judge, S: Source, K: Sink>(
     alloc: Global,
     units: &mut Units<C, J>,

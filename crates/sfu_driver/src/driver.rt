@@ -14,7 +14,8 @@ use std::alloc::Global;
 /// The greatest number of bytes that one read of a source returns.
 pub const MOST_PIECE: usize = 65_536;
 
-/// Texts are written once they have this many bytes, even in the middle of a piece of the input.
+/// Buffered texts are written at the end of each piece of the input. In the middle of a piece, they are written once there are at least this many bytes of
+/// them.
 const MOST_READY: usize = 65_536;
 
 // Writes all texts that are ready, and empties `ready`.
@@ -87,7 +88,7 @@ fn take_unit<C: Cut, J: Judge, K: Sink>(
     Ok(count)
 }
 
-/// Takes a piece of the input, and writes the texts that are due for it.
+/// Takes a piece of the input, and writes the texts that are due for this piece.
 fn feed<C: Cut, J: Judge, K: Sink>(
     units: &mut Units<C, J>,
     ready: &mut Blob,
@@ -164,8 +165,8 @@ fn finish<C: Cut, J: Judge, K: Sink>(
     }
 }
 
-/// Does the same as [`drive`] for an input whose first `first` bytes were read
-/// before, into the start of `piece`. `first` is 0 only if the input has ended.
+/// Does the same as [`drive`] if the first `first` bytes of the input were already read into the start of `piece`. `first` is 0 only if the input has
+/// ended.
 pub fn drive_behind<C: Cut, J: Judge, S: Source, K: Sink>(
     alloc: Global,
     units: &mut Units<C, J>,

@@ -4,7 +4,7 @@ ghost use Rattle.sfu_driver.specs.declared.halt.Halt.TheVariants.{Starved};
 
 use sfu_base::NoMemory;
 
-/// How the input can end a command.
+/// Why the input ends a command.
 #[derive(Clone, Copy, Debug, PartialEq, Eq)]
 pub enum Ending {
     /// A unit is outside the grammar.
@@ -15,7 +15,7 @@ pub enum Ending {
     Obu,
 }
 
-/// Why a unit ends a command.
+/// Why a unit, or the end of the input, ends a command.
 #[derive(Clone, Copy, Debug, PartialEq, Eq)]
 pub enum Halt {
     /// The input ends the command.
@@ -37,7 +37,7 @@ impl From<NoMemory> for Halt {
 pub enum Interruption {
     /// The source failed.
     SourceFault,
-    /// The sink failed. A failure in the last text of a `Halted` command doesn't count.
+    /// The sink failed. If the sink fails only while the last text of a `Halted` command is written, the command is still `Halted`.
     SinkFault,
     /// A unit, or the end of the input, ended the command.
     Halted(Halt),

@@ -14,22 +14,24 @@ pub trait Judge {
     /// Whether the judge is in this state.
     ghost stands: { Self → Self.State → Type 0 };
 
-    /// The outcome of the unit with this number: the text that is due, and then the next state or the reason why the command ends.
+    /// The outcome of a unit. The arguments are the judge's state, the unit's number and the unit's text. The outcome has the text that is due, and then
+    /// either the next state or the reason why the command ends.
     ghost step: { Self.State → ℕ → List ℕ → Outcome Self.State };
 
-    /// The last text of a command that ends because the unit with this number is outside the grammar of units.
+    /// The command's last text, if the unit with this number is outside the grammar of units.
     ghost outside: { ℕ → List ℕ };
 
     /// The text that is due at the end of the input.
     ghost closing: { Self.State → List ℕ };
 
-    /// Judges the unit with this number. If the unit ends the command, only the last text is appended. If memory runs out, nothing is appended.
+    /// Judges the unit with this number, and appends the text that is due for the unit. If the unit ends the command, only the command's last text is
+    /// appended. If memory runs out, nothing is appended.
     fn judge(&mut self, number: u32, unit: &[u8], ready: &mut Blob) -> Result<(), Halt>
         ensures judges { (state : Self.State) → Self.stands self.old state
             → Judges Self.stands (Self.step state number unit.now) self.new ready.old ready.new result }
         ensures grows { length ready.old ≤ length ready.new };
 
-    /// Appends the last text, because the unit with this number is outside the grammar of units.
+    /// Appends the command's last text. The command ends because the unit with this number is outside the grammar of units.
     fn refuse(&self, number: u64, ready: &mut Blob) -> Result<(), NoMemory>
         ensures ok { OnOk result (ready.new ≡ ready.old ++ Self.outside number) }
         ensures err { OnErr result (ready.new ≡ ready.old) };

@@ -9,8 +9,8 @@ ghost use Rattle.sfu_driver.specs.Statuses.{due_of};
 
 use crate::{Cut, Judge};
 
-/// The texts that are due for the bytes of a whole input are those due for its lines. For
-/// bytes after which more may come, they are those due for the lines that are judged so far.
+/// For a whole input, the texts due for its bytes are the texts due for its lines. For bytes after which more may come, the texts due are those for the
+/// lines judged so far.
 pub fn bytes_make_lines<J: Judge>()
     ensures whole { (state : J.State) (number : ℕ) (bytes : List ℕ)
         → due (rule_of line_scan line_scan_end J.step J.outside J.closing) (record { state = state; number = number; kept = [] }) bytes

@@ -1,4 +1,4 @@
-//! The input loop of all commands: the input is cut into units, each unit is judged, and the texts that are due are written.
+//! The input loop of all commands. It cuts the input into units (for example lines), judges each unit, and writes the texts that are due for the units.
 #![tactic(auto)]
 
 mod conclusion;
@@ -12,7 +12,6 @@ mod sink;
 mod statuses;
 #[cfg(test)]
 mod tests;
-mod unit_buf;
 mod units;
 
 pub use conclusion::{answer, answer_behind};

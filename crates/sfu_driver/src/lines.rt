@@ -7,8 +7,8 @@ ghost use Rattle.sfu_driver.specs.Scan.{Finds};
 use crate::{Cut, Found, Last, MOST_UNIT};
 use memchr::memchr;
 
-/// Cuts input into lines. Each line ends with an LF, which the last line may lack. A CR directly before
-/// the LF isn't part of the text. A line has at most 4,200 bytes before its LF, including the CR.
+/// Cuts input into lines. Each line ends with an LF. Only the last line may have no LF. A CR directly before the LF isn't part of the line's text. Before
+/// its LF, a line has at most 4,200 bytes, including the CR.
 #[derive(Clone, Copy, Debug, Drop)]
 pub struct Lines;
 

@@ -6,8 +6,8 @@ ghost use Rattle.sfu_driver.specs.Drive.{WritesPart};
 
 use sfu_base::{Failed, Sink};
 
-/// Writes a whole text, by repeated calls of the sink. It makes no further call after
-/// one that fails. After `Failed`, the sink has received a strict prefix of the text.
+/// Writes a whole text, by repeated calls of the sink. If a call fails, the function makes no further call and returns `Failed`. The sink has then received
+/// a strict prefix of the text.
 pub fn write_all<K: Sink>(sink: &mut K, text: &[u8]) -> Result<(), Failed>
     ensures ok { OnOk result (Appends (K.written sink.old) (K.written sink.new) text.now) }
     ensures part { OnErr result (WritesPart (K.written sink.old) (K.written sink.new) text.now) }

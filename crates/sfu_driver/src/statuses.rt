@@ -4,28 +4,28 @@ ghost use Rattle.sfu_driver.specs.Statuses.{number_of, status_for};
 
 use crate::{Ending, Halt, Interruption};
 
-/// How a command ended. The number of the status is the program's exit status.
+/// How a command ended. Each status has a number, the program's exit status.
 #[derive(Clone, Copy, Debug, PartialEq, Eq)]
 pub enum Status {
-    /// All texts that were due are written: 0.
+    /// Exit status 0: all texts that were due were written.
     Done,
-    /// The arguments aren't a command: 2.
+    /// Exit status 2: the arguments aren't a command.
     NoCommand,
-    /// The source failed: 3.
+    /// Exit status 3: the source failed.
     SourceFault,
-    /// The sink failed: 4. A failure in the text that says why the input ended the command doesn't count.
+    /// Exit status 4: the sink failed. If the sink fails only in the last text, which says why the input ended the command, the status is `Ended`.
     SinkFault,
-    /// Out of memory: 6.
+    /// Exit status 6: out of memory.
     NoMemory,
-    /// A port failed: 7.
+    /// Exit status 7: a port failed.
     PortFault,
-    /// The input ended the command. 5: a unit is outside the grammar. 8: the strict receiver complains. 10: an element of a frame isn't
-    /// an OBU.
+    /// The input ended the command. Exit status 5: a unit is outside the grammar. Exit status 8: the strict receiver complains. Exit status 10: an element
+    /// of a frame isn't an OBU.
     Ended(Ending),
 }
 
 impl Status {
-    /// Returns the status of a command with this result.
+    /// Returns the status of a command whose input loop (`drive`) returned this result.
     pub fn of(came_out: Result<(), Interruption>) -> Status
         ensures { number_of result ≡ status_for came_out }
     {

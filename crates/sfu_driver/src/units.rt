@@ -1,23 +1,25 @@
 // Assembling units from pieces of any size, and judging them one after another.
 ghost use Rattle.std.specs.Prelude.{◌≤◌, ◌+◌, length};
 ghost use Rattle.sfu_driver.specs.declared.cut.TheConstants.{MOST_UNIT};
-ghost use Rattle.sfu_driver.specs.declared.units.TheConstants.{MOST_UNITS};
+ghost use Rattle.sfu_driver.specs.declared.units.TheConstants.{CAPACITY, MOST_UNITS};
 
-use crate::unit_buf::{ROOM, UnitBuf};
 use crate::{Cut, Ending, Found, Halt, Judge, Last, MOST_UNIT};
-use sfu_base::{Blob, NoMemory};
+use sfu_base::{Blob, FixedBuf, NoMemory};
 
-/// The greatest number that a unit may have.
+/// The capacity, in bytes, of the buffer for a unit. It suffices for the longest unit and the byte that ends the unit.
+const CAPACITY: usize = 4201;
+
+/// A unit's number is at most this.
 const MOST_UNITS: u64 = 4_294_967_295;
 
-/// The input of a command so far: the way to cut it, the judge of its units, the number of the unit being assembled, and the bytes of
-/// that unit so far.
+/// The state of a command's input loop: the way to cut the input, the judge of the units, the number of the current unit, and the current unit's bytes so
+/// far.
 #[derive(Debug, Drop)]
 pub struct Units<C, J> {
     pub cut: C,
     pub judge: J,
     pub number: u64,
-    pub kept: UnitBuf,
+    pub kept: FixedBuf<CAPACITY>,
     ghost bounded: { number ≤ MOST_UNITS + 1 },
     ghost short: { length kept ≤ MOST_UNIT },
 }
@@ -40,7 +42,7 @@ impl<C: Cut, J: Judge> Units<C, J> {
             cut,
             judge,
             number,
-            kept: UnitBuf::new(),
+            kept: FixedBuf::new(),
         }
     }
 
@@ -78,7 +80,7 @@ impl<C: Cut, J: Judge> Units<C, J> {
         ready: &mut Blob,
     ) -> Result<(), Halt>
         requires numbered { self.old.number ≤ MOST_UNITS }
-        requires fits { length self.old.kept + length came.now ≤ ROOM }
+        requires fits { length self.old.kept + length came.now ≤ CAPACITY }
         requires order { start ≤ end }
         requires within { end ≤ length self.old.kept + length came.now }
         ensures judges { (state : J.State) → J.stands self.old.judge state
@@ -107,7 +109,7 @@ impl<C: Cut, J: Judge> Units<C, J> {
         end: usize,
         ready: &mut Blob,
     ) -> Result<(), Halt>
-        requires fits { length self.old.kept + length came.now ≤ ROOM }
+        requires fits { length self.old.kept + length came.now ≤ CAPACITY }
         requires order { start ≤ end }
         requires within { end ≤ length self.old.kept + length came.now }
         ensures judges { (state : J.State) → J.stands self.old.judge state
@@ -125,8 +127,8 @@ impl<C: Cut, J: Judge> Units<C, J> {
         Ok(())
     }
 
-    /// Takes bytes from the start of a piece until a unit or the piece ends, and judges the unit if it has ended. Returns how many bytes
-    /// were taken.
+    /// Takes bytes from the start of a piece until the current unit ends or the piece ends. Judges the unit if it has ended. Returns how many bytes were
+    /// taken.
     #[inline(always)]
     pub fn next(&mut self, piece: &[u8], ready: &mut Blob) -> Result<usize, Halt>
         requires { 0 < length piece.now }
@@ -168,7 +170,7 @@ impl<C: Cut, J: Judge> Units<C, J> {
         }
     }
 
-    /// Handles the end of the input: judges the bytes that remain, and appends the closing text.
+    /// Handles the end of the input: judges the remaining bytes as the last unit, and appends the closing text.
     pub fn finish(&mut self, ready: &mut Blob) -> Result<(), Halt>
         ensures judges { (point : Point J.State) → StandsAt J.stands self.old point
             → Judges (JudgeStands J.stands) (ends (rule_of C.scan C.scan_end J.step J.outside J.closing) point) self.new ready.old ready.new result }

@@ -3,15 +3,15 @@ use libc::net as c;
 use std::net::UdpSocket;
 use std::os::fd::AsRawFd;
 
-/// The least size of a receive buffer that a link requests, in bytes. The system counts some 2,300 bytes for a packet of 1,200. So this size is
-/// enough for a burst of 512 such packets, the capacity of a subscriber's queue.
+/// If a socket's receive buffer has fewer bytes than this, its link requests one of this size. A packet of 1,200 bytes takes some 2,300 bytes of the
+/// buffer. So this size is enough for a burst of 512 such packets, the capacity of a subscriber's queue.
 const LEAST_SIZE: i32 = 1_200_000;
 
 /// The length of a socket option's value, in bytes.
 const NUMBER_BYTES: u32 = 4;
 
-/// Requests a larger buffer if the socket's is smaller than `LEAST_SIZE`. The system allows at most twice `net.core.rmem_max`. If it refuses, the
-/// default size stays.
+/// Requests a larger receive buffer if the socket's buffer has fewer than `LEAST_SIZE` bytes. The system allows at most twice `net.core.rmem_max`. If
+/// the system refuses the request, the buffer keeps its size.
 pub fn enlarge(socket: &UdpSocket) {
     let fd = socket.as_raw_fd();
     let mut value = [0u8; 16];

@@ -13,14 +13,15 @@ use std::os::fd::AsRawFd;
 use std::time::Duration;
 use std::{io, thread, time};
 
-/// The longest sleep of a receive in milliseconds, if no datagram comes and no other link wakes it. With the system's delay it stays below 5 milliseconds.
+/// The longest sleep, in milliseconds, of a receive that a datagram or another link can wake. With the system's delay it stays below 5 milliseconds.
 const LONGEST_SLEEP: u64 = 4;
 
-/// The sleep of a quiet link's receive, in microseconds. With the system's delay it stays below 5 milliseconds. Nothing ends this sleep early,
-/// which costs less than a sleep that can be ended.
+/// The sleep of a quiet link's receive, in microseconds. With the system's delay it stays below 5 milliseconds. Nothing ends this sleep early, so it
+/// costs less than a sleep that a datagram or another link can end.
 const QUIET_SLEEP: u64 = 4500;
 
-/// A link is quiet after this number of receives in a row without a datagram, if it sent nothing between them. These receives take some 2 seconds in all.
+/// A link is quiet after this number of receives in a row that returned no datagram, if it sent nothing in between. These receives take some 2
+/// seconds in all.
 const QUIET_AFTER: u32 = 500;
 
 /// The sleep of a busy link's receive, in microseconds. Datagrams that arrive during the sleep are forwarded together. Nothing ends this sleep early.
@@ -29,23 +30,24 @@ const BUSY_SLEEP: u64 = 700;
 /// A link is busy if it found its socket empty twice within this number of microseconds and received a datagram in between.
 const BUSY_WITHIN: u64 = 950;
 
-/// The longest pause of a link that follows a busy link, in microseconds. A longer pause would come from an error of the clock.
+/// The longest pause, in microseconds, of a link that follows a busy link. A longer pause would come from an error of the clock.
 const LONGEST_PAUSE: u64 = 1500;
 
-/// The number of datagrams received in a row after which the followers are woken even if the socket isn't empty.
+/// When this number of datagrams has been received in a row, the followers are woken even if the socket isn't empty. The same applies to each
+/// multiple of the number.
 const ROW: u32 = 32;
 
-/// If a link has sent this number of packets or more since its last receive, further packets may wait to be sent. So its next receive doesn't
-/// sleep. A session sends at most 32 packets between two receives.
+/// If a link has sent this number of packets or more since its socket was last found empty, further packets may wait to be sent. So the next receive
+/// that would otherwise sleep doesn't sleep. A session sends at most 32 packets between two receives.
 const MUCH: u32 = 16;
 
-/// The time that a send waits between two tries while the system's buffer is full, in milliseconds.
+/// The wait between two tries of a send, in milliseconds, while the system's buffer is full.
 const SEND_WAIT: u64 = 1;
 
-/// The largest number of datagrams from other addresses that one receive skips.
+/// One look for the peer's next datagram skips at most this number of datagrams from other addresses.
 const OTHERS_LIMIT: u32 = 64;
 
-/// The number of tries of a send while the system's buffer is full.
+/// A send is tried at most this many times while the system's buffer is full.
 const SEND_TRIES: u32 = 100;
 
 /// The largest number of bytes that are received of one datagram. Further bytes are cut off.
@@ -245,7 +247,7 @@ impl<'a, R: Net + time::Clock> UdpLink<'a, R> {
         if !self.is_connected {
             self.is_connected = connects(&self.socket, self.peer)?;
         }
-        let mut is_told = false;
+        let mut is_reported = false;
         for _ in 0..SEND_TRIES {
             match self.hand_over(bytes) {
                 Ok(_) => return Ok(()),
@@ -254,8 +256,8 @@ impl<'a, R: Net + time::Clock> UdpLink<'a, R> {
                     Trouble::Waits => {
                         thread::sleep(self.system, Duration::from_millis(SEND_WAIT))
                     }
-                    Trouble::Passes if is_told => return Ok(()),
-                    Trouble::Passes => is_told = true,
+                    Trouble::Passes if is_reported => return Ok(()),
+                    Trouble::Passes => is_reported = true,
                     Trouble::Lasts => return Err(error),
                 },
             }
@@ -311,14 +313,14 @@ fn socket_address(address: Address) -> SocketAddr {
 }
 
 impl<'a, R: Net + time::Clock> Link for UdpLink<'a, R> {
-    ghost told = { λ _. None };
+    ghost traffic = { λ _. None };
 
     ghost name = { λ s. s.name };
 
     ghost faults = { λ s. s.faults };
 
-    /// If there is no datagram from the peer, this call sleeps for at most 5 milliseconds, until a datagram comes or another link wakes it. If
-    /// the last receive returned no datagram, it sleeps before it looks for one.
+    /// If there is no datagram from the peer, this call sleeps for at most 5 milliseconds. A datagram or another link may end the sleep earlier. If
+    /// the last receive returned no datagram, this call sleeps before it looks for one.
     fn receive(&mut self, buf: &mut PacketBuf) -> Result<bool, Failed> {
         match self.next() {
             Ok(Some(count)) => {
@@ -359,8 +361,8 @@ pub struct UdpPorts<'a, R> {
 }
 
 impl<'a, R: Net + time::Clock + Sync> UdpPorts<'a, R> {
-    /// Ports of which none is bound yet. `system` opens the sockets, and its clock is used for waiting. The links wake each other through
-    /// `table`, which no other ports may use. Each link takes three file descriptors.
+    /// Ports before the first bind. `system` opens the sockets, and its clock is used for waiting. The links wake each other through `table`. No
+    /// other ports may use the same table. Each link takes three file descriptors.
     pub fn new(system: &'a R, alloc: Global, table: &'a WakeTable) -> Self
         ensures bound { ⟦<UdpPorts<'a, R> as Ports>⟧.bound result ≡ 0 }
         ensures back_count { ⟦<UdpPorts<'a, R> as Ports>⟧.back_count result ≡ 0 }

@@ -8,11 +8,11 @@ use std::sync::OnceLock;
 use std::sync::atomic::{AtomicU8, AtomicU64, Ordering};
 use std::time::Duration;
 
-/// The number of links that can be woken. Links that are bound later can't be woken.
+/// The number of links that can be woken: those that are bound first. Links that are bound later can't be woken.
 const LINKS: usize = 64;
 
-/// The difference, in microseconds, between the moments at which links with consecutive numbers continue. The difference keeps them from
-/// waiting for the room's lock at the same time.
+/// The step between the delays of links, in microseconds. Links that end their sleep with different delays don't wait for the room's lock at the same
+/// time.
 const STEP: u64 = 40;
 
 /// The number of different delays: link n is delayed by `n % STEPS * STEP` microseconds.
@@ -28,7 +28,7 @@ const SLEEPS: u8 = 1;
 
 const WOKEN: u8 = 2;
 
-/// The data about a link that other links use.
+/// The data about one link, for use by the other links.
 #[derive(Drop)]
 struct Entry {
     waker: OnceLock<Waker>,
@@ -85,7 +85,7 @@ impl WakeTable {
         }
     }
 
-    /// Wakes the links that follow link `number`, after it has received datagrams. `tail` is `tail_of` the last datagram.
+    /// Wakes the links that follow link `number`. Link `number` has just received datagrams, and `tail` is `tail_of` the last one.
     pub fn wake_followers(&self, number: u64, tail: u64) {
         let Some(entry) = self.entries.get(number as usize) else {
             return;
@@ -98,7 +98,8 @@ impl WakeTable {
         }
     }
 
-    /// Notes that link `number` is busy and expects to have received more by this time of the clock. Zero means that it isn't busy any more.
+    /// Notes that link `number` is busy, and expects to have received more datagrams by the clock time `moment`. If `moment` is zero, the link isn't
+    /// busy any more.
     pub fn expect(&self, number: u64, moment: Duration) {
         if let Some(entry) = self.entries.get(number as usize) {
             let micros = u64::try_from(moment.as_micros()).unwrap_or(0);
@@ -106,8 +107,8 @@ impl WakeTable {
         }
     }
 
-    /// The time of the clock at which link `number` should continue, or `None` if it follows no busy link. The returned time is some
-    /// microseconds after the time by which the followed link expects to have received more.
+    /// The clock time at which link `number` should end its sleep, or `None` if it follows no busy link. This is the time by which the busy link
+    /// expects to have received more datagrams, plus a delay of 0 to 120 microseconds that depends on `number`.
     pub fn next_turn(&self, number: u64) -> Option<Duration> {
         let followed = self
             .entries
@@ -125,7 +126,7 @@ impl WakeTable {
         Some(Duration::from_micros(expected.saturating_add(number % STEPS * STEP)))
     }
 
-    /// Makes link `number` follow the link that received the last packet sent by link `number`. `tail` is `tail_of` that packet.
+    /// Another link received the packet that link `number` sent last. Makes link `number` follow that link. `tail` is `tail_of` the packet.
     pub fn follow(&self, number: u64, tail: u64) {
         let Some(entry) = self.entries.get(number as usize) else {
             return;
@@ -138,7 +139,7 @@ impl WakeTable {
         }
     }
 
-    /// Notes that link `number` is about to sleep. Returns true if no link has woken it since `end_sleep`.
+    /// Notes that link `number` is about to sleep. Returns true if no link has woken it since the last `end_sleep`.
     pub fn begin_sleep(&self, number: u64) -> bool {
         match self.entries.get(number as usize) {
             Some(entry) => entry.state.swap(SLEEPS, Ordering::SeqCst) != WOKEN,
@@ -154,8 +155,8 @@ impl WakeTable {
     }
 }
 
-/// The last eight bytes of a datagram as a number, or 0 if the datagram is shorter. A forwarded packet keeps its payload, so it has the same
-/// tail when it is received and when it is sent.
+/// The last eight bytes of a datagram as a number, or 0 if the datagram has fewer than eight bytes. A forwarded packet keeps its payload, so it has
+/// the same tail when it is received and when it is sent.
 pub fn tail_of(bytes: &[u8]) -> u64 {
     match bytes.split_last_chunk::<8>() {
         Some((_, last)) => u64::from_le_bytes(*last),

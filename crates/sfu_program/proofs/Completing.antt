@@ -117,16 +117,16 @@ one_made AllTurns others is = (refl, is)
 one_made (LinkFault turn) others is = absurd (cc is)
 one_made Worn others is = absurd (cc is)
 
-all_ends : {L : Type 0} (told : L → Option Traffic) (faults : L → ℕ) (limit found : ℕ) (history : List (turn.Entry Call)) (number : ℕ) (lines : List PortLine) (jobs : List Before) (ended : List (Ended L))
-    → AreFresh lines jobs → AreSessions limit found history number jobs (afters told faults ended) → all_made (ends_of ended) ≡ true → ends_of ended ≡ all_turns lines
-all_ends told faults limit found history number [] [] [] fresh are made = refl
-all_ends told faults limit found history number [] [] (e ∷ es) fresh are made = absurd are
-all_ends told faults limit found history number [] (j ∷ js) ended fresh are made = absurd fresh
-all_ends told faults limit found history number (l ∷ ls) [] ended fresh are made = absurd fresh
-all_ends told faults limit found history number (l ∷ ls) (j ∷ js) [] fresh are made = absurd are
-all_ends told faults limit found history number (l ∷ ls) (j ∷ js) (e ∷ es) fresh are made =
+all_ends : {L : Type 0} (traffic : L → Option Traffic) (faults : L → ℕ) (limit found : ℕ) (history : List (turn.Entry Call)) (number : ℕ) (lines : List PortLine) (jobs : List Before) (ended : List (Ended L))
+    → AreFresh lines jobs → AreSessions limit found history number jobs (afters traffic faults ended) → all_made (ends_of ended) ≡ true → ends_of ended ≡ all_turns lines
+all_ends traffic faults limit found history number [] [] [] fresh are made = refl
+all_ends traffic faults limit found history number [] [] (e ∷ es) fresh are made = absurd are
+all_ends traffic faults limit found history number [] (j ∷ js) ended fresh are made = absurd fresh
+all_ends traffic faults limit found history number (l ∷ ls) [] ended fresh are made = absurd fresh
+all_ends traffic faults limit found history number (l ∷ ls) (j ∷ js) [] fresh are made = absurd are
+all_ends traffic faults limit found history number (l ∷ ls) (j ∷ js) (e ∷ es) fresh are made =
     let both = one_made e.end (all_made (ends_of es)) made in
-    λ i. both.0 i ∷ all_ends told faults limit found history (number + 1) ls js es fresh.1 are.1 both.1 i
+    λ i. both.0 i ∷ all_ends traffic faults limit found history (number + 1) ls js es fresh.1 are.1 both.1 i
 
 -- no configuration was read
 read_nothing : (fault : Option ℕ) (text : List ℕ) (x : Exchange) (status : ℕ) → (status ≡ 3) ⊎ (status ≡ 5) ⊎ (status ≡ 6) → EndsAs (outside_end fault_line fault) x status × Appends x.written x.written' (last_text (outside_end fault_line fault))
@@ -142,21 +142,21 @@ wrote_all : (fault : Option ℕ) (text : List ℕ) (x : Exchange) (status : ℕ)
 wrote_all None text x status none zero end wrote = ((zero, end), subst (λ (t : List ℕ). Appends x.written x.written' t) (sym (append-nil text)) wrote)
 wrote_all (Some line) text x status none zero end wrote = absurd (cc none)
 
-module _ {L : Type 0} (told : L → Option Traffic) (faults name : L → ℕ) (limit : ℕ) (x : Exchange) (old new : PortsSeen L) (status : ℕ) (none : NoneRose x old.faults new.faults) where
+module _ {L : Type 0} (traffic : L → Option Traffic) (faults name : L → ℕ) (limit : ℕ) (x : Exchange) (old new : PortsSeen L) (status : ℕ) (none : NoneRose x old.faults new.faults) where
   unread : ReadsNoSetup x.left x.left' x.written x.written' x.reads x.reads' x.writes x.writes' status → Finishes serve_due x status
   unread r = ⊎_elim (λ (six : status ≡ 6). inl six)
       (λ (h : IfSome x.left (λ bytes. EndsAs (read_due bytes).end x status × Appends x.written x.written' (full_text (read_due bytes)))).
       inr (if_some x.left _ _ (λ b e. read_nothing (configuration_of b).fault _ x status r.only e) h))
       (finishes read_due read_part x status r.statuses none.reads none.writes)
 
-  acted : ActsOn told faults name limit x.left x.left' x.written x.written' x.writes x.writes' old new status → Finishes serve_due x status
+  acted : ActsOn traffic faults name limit x.left x.left' x.written x.written' x.writes x.writes' old new status → Finishes serve_due x status
   acted on = by on.acts.only
     where
       by : (status ≡ 0) ⊎ (status ≡ 4) ⊎ (status ≡ 6) ⊎ (status ≡ 7) → Finishes serve_due x status
       by (inl zero) =
           let setup = (configuration_of on.bytes).setup in
           let done = on.acts.done zero in
-          let ends : ends_of done.0 ≡ all_turns setup.ports = all_ends told faults limit 0 done.1.served.history 1 setup.ports done.1.jobs done.0 done.1.fresh done.1.served.each done.2 in
+          let ends : ends_of done.0 ≡ all_turns setup.ports = all_ends traffic faults limit 0 done.1.served.history 1 setup.ports done.1.jobs done.0 done.1.fresh done.1.served.each done.2 in
           inr (Consumes-whole x.left x.left' on.bytes (λ bytes. EndsAs (serve_due bytes).end x status × Appends x.written x.written' (full_text (serve_due bytes))) on.consumed on.at_end
           (wrote_all (configuration_of on.bytes).fault _ x status on.whole zero on.at_end
           (subst (λ (e : List SessionEnd). Appends x.written x.written' (first_text setup.calls ++ ends_text 1 e)) ends done.3)))
@@ -164,10 +164,10 @@ module _ {L : Type 0} (told : L → Option Traffic) (faults name : L → ℕ) (l
       by (inr (inr (inl six))) = inl six
       by (inr (inr (inr seven))) = absurd (none.ports (on.acts.ports seven))
 
-  pub serve_finishes : Serves told faults name limit x old new status → Finishes serve_due x status
+  pub serve_finishes : Serves traffic faults name limit x old new status → Finishes serve_due x status
   serve_finishes s = ⊎_elim (λ (no : ReadsNoSetup x.left x.left' x.written x.written' x.reads x.reads' x.writes x.writes' status × (new ≡ old)). unread no.0) acted s.came
 
-  pub serve_inside : Serves told faults name limit x old new status → IsInside status
+  pub serve_inside : Serves traffic faults name limit x old new status → IsInside status
   serve_inside s = by (s.complete none.reads none.writes none.ports)
     where
       by : (status ≡ 0) ⊎ (status ≡ 5) ⊎ (status ≡ 6) → IsInside status

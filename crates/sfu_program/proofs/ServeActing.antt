@@ -97,9 +97,9 @@ link_quiet before after limit (Ask call f) turns AllTurns h made = absurd h
 link_quiet before after limit rest turns (LinkFault turn) h made = absurd (cc made)
 link_quiet before after limit rest turns Worn h made = absurd (cc made)
 
-module _ {L : Type 0} (told : L → Option Traffic) (faults name : L → ℕ) where
+module _ {L : Type 0} (traffic : L → Option Traffic) (faults name : L → ℕ) where
   pub some_failed : (limit : ℕ) (history : List (Entry Call)) (number : ℕ) (lines : List PortLine) (jobs : List Before) (ended : List (Ended L)) → AreFresh lines jobs
-      → AreSessions limit 0 history number jobs (afters told faults ended) → all_made (ends_of ended) ≡ false → SomeFault faults (map (λ session. session.link) ended)
+      → AreSessions limit 0 history number jobs (afters traffic faults ended) → all_made (ends_of ended) ≡ false → SomeFault faults (map (λ session. session.link) ended)
   some_failed limit history number lines [] [] fresh all few = absurd (cc few)
   some_failed limit history number lines [] (e ∷ es) fresh all few = absurd all
   some_failed limit history number lines (j ∷ js) [] fresh all few = absurd all
@@ -112,7 +112,7 @@ module _ {L : Type 0} (told : L → Option Traffic) (faults name : L → ℕ) wh
 
   -- if all sessions made all their turns, no link has faults
   pub none_failed : (limit : ℕ) (history : List (Entry Call)) (number : ℕ) (lines : List PortLine) (jobs : List Before) (ended : List (Ended L)) → AreFresh lines jobs
-      → AreSessions limit 0 history number jobs (afters told faults ended) → all_made (ends_of ended) ≡ true → NoFault faults (map (λ session. session.link) ended)
+      → AreSessions limit 0 history number jobs (afters traffic faults ended) → all_made (ends_of ended) ≡ true → NoFault faults (map (λ session. session.link) ended)
   none_failed limit history number lines [] [] fresh all made = tt
   none_failed limit history number lines [] (e ∷ es) fresh all made = absurd all
   none_failed limit history number lines (j ∷ js) [] fresh all made = absurd all
@@ -127,7 +127,7 @@ module _ {L : Type 0} (told : L → Option Traffic) (faults name : L → ℕ) wh
 
   module _ (limit : ℕ) (calls : List Call) (lines : List PortLine) (w w' : Option (List ℕ)) (f f' : ℕ) (old new : PortsSeen L) where
     -- memory ran out
-    pub ends_starved : Appends w w' [] → f' ≡ f → new.faults ≡ old.faults → Ends told faults name limit calls lines w w' f f' old new 6
+    pub ends_starved : Appends w w' [] → f' ≡ f → new.faults ≡ old.faults → Ends traffic faults name limit calls lines w w' f f' old new 6
     ends_starved none kept quiet = record {
       done = λ e. absurd (omega arith);
       sink = λ e. absurd (omega arith);
@@ -141,7 +141,7 @@ module _ {L : Type 0} (told : L → Option Traffic) (faults name : L → ℕ) wh
     }
 
     -- a port wasn't bound
-    pub ends_unbound : Appends w w' [] → f' ≡ f → WasUnbound told faults name lines old new → Ends told faults name limit calls lines w w' f f' old new 7
+    pub ends_unbound : Appends w w' [] → f' ≡ f → WasUnbound traffic faults name lines old new → Ends traffic faults name limit calls lines w w' f f' old new 7
     ends_unbound none kept unbound = record {
       done = λ e. absurd (omega arith);
       sink = λ e. absurd (omega arith);
@@ -155,8 +155,8 @@ module _ {L : Type 0} (told : L → Option Traffic) (faults name : L → ℕ) wh
     }
 
     -- sessions ended
-    pub ends_served : (status : ℕ) (ended : List (Ended L)) → HasServed told faults name limit calls lines old new ended → (SomeFault faults (map (λ session. session.link) ended) → Rose old.faults new.faults)
-        → (NoFault faults (map (λ session. session.link) ended) → new.faults ≡ old.faults) → EndsWith (ends_of ended) w w' f f' status → Ends told faults name limit calls lines w w' f f' old new status
+    pub ends_served : (status : ℕ) (ended : List (Ended L)) → HasServed traffic faults name limit calls lines old new ended → (SomeFault faults (map (λ session. session.link) ended) → Rose old.faults new.faults)
+        → (NoFault faults (map (λ session. session.link) ended) → new.faults ≡ old.faults) → EndsWith (ends_of ended) w w' f f' status → Ends traffic faults name limit calls lines w w' f f' old new status
     ends_served status ended served rose calm ends = record {
       done = λ e. (ended, served, (ends.done e).0, (ends.done e).1);
       sink = λ e. (ends.sink e).0;
@@ -170,7 +170,7 @@ module _ {L : Type 0} (told : L → Option Traffic) (faults name : L → ℕ) wh
     }
 
     -- memory ran out for the first calls
-    pub acts_starved : new ≡ old → Appends w w' [] → f' ≡ f → Acts told faults name limit calls lines w w' f f' old new 6
+    pub acts_starved : new ≡ old → Appends w w' [] → f' ≡ f → Acts traffic faults name limit calls lines w w' f f' old new 6
     acts_starved same none kept = record {
       done = λ e. absurd (omega arith);
       sink = λ e. absurd (omega arith);
@@ -184,7 +184,7 @@ module _ {L : Type 0} (told : L → Option Traffic) (faults name : L → ℕ) wh
     }
 
     -- the sink failed in the replies to them
-    pub acts_unwritten : new ≡ old → f' ≡ raised f → WritesPart w w' (first_text calls) → Acts told faults name limit calls lines w w' f f' old new 4
+    pub acts_unwritten : new ≡ old → f' ≡ raised f → WritesPart w w' (first_text calls) → Acts traffic faults name limit calls lines w w' f f' old new 4
     acts_unwritten same once part = record {
       done = λ e. absurd (omega arith);
       sink = λ e. rose_by f f' once;
@@ -199,7 +199,7 @@ module _ {L : Type 0} (told : L → Option Traffic) (faults name : L → ℕ) wh
 
   -- the replies to the first calls were written, and then came the ports
   pub acts_behind : (limit : ℕ) (calls : List Call) (lines : List PortLine) (w w1 w' : Option (List ℕ)) (f f1 f' : ℕ) (old new : PortsSeen L) (status : ℕ) → f1 ≡ f → Appends w w1 (first_text calls)
-      → Ends told faults name limit calls lines w1 w' f1 f' old new status → Acts told faults name limit calls lines w w' f f' old new status
+      → Ends traffic faults name limit calls lines w1 w' f1 f' old new status → Acts traffic faults name limit calls lines w w' f f' old new status
   acts_behind limit calls lines w w1 w' f f1 f' old new status kept first ends = record {
     done = λ e. let d = ends.done e in (d.0, d.1, d.2, appends_both w w1 w' (first_text calls) (ends_text 1 (ends_of d.0)) first d.3);
     sink = λ e. subst (λ (n : ℕ). Rose n f') kept (ends.sink e);
@@ -212,28 +212,28 @@ module _ {L : Type 0} (told : L → Option Traffic) (faults name : L → ℕ) wh
     calm = ends.calm;
   }
     where
-      by_failure : (WasUnbound told faults name lines old new × Appends w1 w' [])
-          ⊎ ((ended : List (Ended L)) × HasServed told faults name limit calls lines old new ended × (all_made (ends_of ended) ≡ false) × Appends w1 w' (ends_text 1 (ends_of ended)))
-          → (WasUnbound told faults name lines old new × Appends w w' (first_text calls))
-          ⊎ ((ended : List (Ended L)) × HasServed told faults name limit calls lines old new ended × (all_made (ends_of ended) ≡ false) × Appends w w' (first_text calls ++ ends_text 1 (ends_of ended)))
+      by_failure : (WasUnbound traffic faults name lines old new × Appends w1 w' [])
+          ⊎ ((ended : List (Ended L)) × HasServed traffic faults name limit calls lines old new ended × (all_made (ends_of ended) ≡ false) × Appends w1 w' (ends_text 1 (ends_of ended)))
+          → (WasUnbound traffic faults name lines old new × Appends w w' (first_text calls))
+          ⊎ ((ended : List (Ended L)) × HasServed traffic faults name limit calls lines old new ended × (all_made (ends_of ended) ≡ false) × Appends w w' (first_text calls ++ ends_text 1 (ends_of ended)))
       by_failure (inl u) = inl (u.0, subst (λ (text : List ℕ). Appends w w' text) (append-nil (first_text calls)) (appends_both w w1 w' (first_text calls) [] first u.1))
       by_failure (inr d) = inr (d.0, d.1, d.2, appends_both w w1 w' (first_text calls) (ends_text 1 (ends_of d.0)) first d.3)
 
 -- ---- the ports that the sessions returned
 
-module _ {L : Type 0} (told : L → Option Traffic) (faults : L → ℕ) where
+module _ {L : Type 0} (traffic : L → Option Traffic) (faults : L → ℕ) where
   -- each job's port was released
-  pub ended_count : (limit : ℕ) (calls : List Call) (jobs : List (Job L)) (ended : List (Ended L)) → HaveServed limit calls (befores told faults jobs) (afters told faults ended) → length ended ≡ length jobs
+  pub ended_count : (limit : ℕ) (calls : List Call) (jobs : List (Job L)) (ended : List (Ended L)) → HaveServed limit calls (befores traffic faults jobs) (afters traffic faults ended) → length ended ≡ length jobs
   ended_count limit calls jobs ended served =
-      sym (length-map ended (λ session. job_after session.end (told session.link) (faults session.link)))
-      ∙ (sym (same_count limit served.history 1 (befores told faults jobs) (afters told faults ended) served.each)
-      ∙ length-map jobs (λ job. job_before job.role (told job.link) (faults job.link)))
+      sym (length-map ended (λ session. job_after session.end (traffic session.link) (faults session.link)))
+      ∙ (sym (same_count limit served.history 1 (befores traffic faults jobs) (afters traffic faults ended) served.each)
+      ∙ length-map jobs (λ job. job_before job.role (traffic job.link) (faults job.link)))
 
-  pub ends_are : (ended : List (Ended L)) → map (λ after. after.end) (afters told faults ended) ≡ ends_of ended
+  pub ends_are : (ended : List (Ended L)) → map (λ after. after.end) (afters traffic faults ended) ≡ ends_of ended
   ends_are [] = refl
   ends_are (e ∷ es) = ap (λ (ends : List SessionEnd). e.end ∷ ends) (ends_are es)
 
-  pub all_unworn : (limit : ℕ) (calls : List Call) (jobs : List Before) (ended : List (Ended L)) → HaveServed limit calls jobs (afters told faults ended) → AreUnworn (ends_of ended)
+  pub all_unworn : (limit : ℕ) (calls : List Call) (jobs : List Before) (ended : List (Ended L)) → HaveServed limit calls jobs (afters traffic faults ended) → AreUnworn (ends_of ended)
   all_unworn limit calls jobs ended served = subst AreUnworn (ends_are ended) served.unworn
 
 -- ---- no text was written before
@@ -241,9 +241,9 @@ module _ {L : Type 0} (told : L → Option Traffic) (faults : L → ℕ) where
 pub appends_behind : (w w1 w' : Option (List ℕ)) (text : List ℕ) → Appends w w1 [] → Appends w1 w' text → Appends w w' text
 appends_behind w w1 w' text none more = appends_both w w1 w' [] text none more
 
-pub acts_before : {L : Type 0} (told : L → Option Traffic) (faults name : L → ℕ) (limit : ℕ) (calls : List Call) (lines : List PortLine) (w w1 w' : Option (List ℕ)) (f f1 f' : ℕ) (old new : PortsSeen L) (status : ℕ) → f1 ≡ f → Appends w w1 []
-    → Acts told faults name limit calls lines w1 w' f1 f' old new status → Acts told faults name limit calls lines w w' f f' old new status
-acts_before {L} told faults name limit calls lines w w1 w' f f1 f' old new status kept none acts = record {
+pub acts_before : {L : Type 0} (traffic : L → Option Traffic) (faults name : L → ℕ) (limit : ℕ) (calls : List Call) (lines : List PortLine) (w w1 w' : Option (List ℕ)) (f f1 f' : ℕ) (old new : PortsSeen L) (status : ℕ) → f1 ≡ f → Appends w w1 []
+    → Acts traffic faults name limit calls lines w1 w' f1 f' old new status → Acts traffic faults name limit calls lines w w' f f' old new status
+acts_before {L} traffic faults name limit calls lines w w1 w' f f1 f' old new status kept none acts = record {
   done = λ e. let d = acts.done e in (d.0, d.1, d.2, appends_behind w w1 w' _ none d.3);
   sink = λ e. subst (λ (n : ℕ). Rose n f') kept (acts.sink e);
   unwritten = λ e. by_part (acts.unwritten e);
@@ -255,20 +255,20 @@ acts_before {L} told faults name limit calls lines w w1 w' f f1 f' old new statu
   calm = acts.calm;
 }
   where
-    by_part : (WritesPart w1 w' (first_text calls) × (new ≡ old)) ⊎ ((ended : List (Ended L)) × HasServed told faults name limit calls lines old new ended × WritesPart w1 w' (first_text calls ++ ends_text 1 (ends_of ended)))
-        → (WritesPart w w' (first_text calls) × (new ≡ old)) ⊎ ((ended : List (Ended L)) × HasServed told faults name limit calls lines old new ended × WritesPart w w' (first_text calls ++ ends_text 1 (ends_of ended)))
+    by_part : (WritesPart w1 w' (first_text calls) × (new ≡ old)) ⊎ ((ended : List (Ended L)) × HasServed traffic faults name limit calls lines old new ended × WritesPart w1 w' (first_text calls ++ ends_text 1 (ends_of ended)))
+        → (WritesPart w w' (first_text calls) × (new ≡ old)) ⊎ ((ended : List (Ended L)) × HasServed traffic faults name limit calls lines old new ended × WritesPart w w' (first_text calls ++ ends_text 1 (ends_of ended)))
     by_part (inl part) = inl (part_after w w1 w' [] (first_text calls) none part.0, part.1)
     by_part (inr d) = inr (d.0, d.1, part_after w w1 w' [] (first_text calls ++ ends_text 1 (ends_of d.0)) none d.2)
 
-    by_memory : (Appends w1 w' [] × (new ≡ old)) ⊎ (Appends w1 w' (first_text calls) × Starved told faults name limit calls lines old new)
-        → (Appends w w' [] × (new ≡ old)) ⊎ (Appends w w' (first_text calls) × Starved told faults name limit calls lines old new)
+    by_memory : (Appends w1 w' [] × (new ≡ old)) ⊎ (Appends w1 w' (first_text calls) × Starved traffic faults name limit calls lines old new)
+        → (Appends w w' [] × (new ≡ old)) ⊎ (Appends w w' (first_text calls) × Starved traffic faults name limit calls lines old new)
     by_memory (inl a) = inl (appends_behind w w1 w' [] none a.0, a.1)
     by_memory (inr a) = inr (appends_behind w w1 w' (first_text calls) none a.0, a.1)
 
-    by_failure : (WasUnbound told faults name lines old new × Appends w1 w' (first_text calls))
-        ⊎ ((ended : List (Ended L)) × HasServed told faults name limit calls lines old new ended × (all_made (ends_of ended) ≡ false) × Appends w1 w' (first_text calls ++ ends_text 1 (ends_of ended)))
-        → (WasUnbound told faults name lines old new × Appends w w' (first_text calls))
-        ⊎ ((ended : List (Ended L)) × HasServed told faults name limit calls lines old new ended × (all_made (ends_of ended) ≡ false) × Appends w w' (first_text calls ++ ends_text 1 (ends_of ended)))
+    by_failure : (WasUnbound traffic faults name lines old new × Appends w1 w' (first_text calls))
+        ⊎ ((ended : List (Ended L)) × HasServed traffic faults name limit calls lines old new ended × (all_made (ends_of ended) ≡ false) × Appends w1 w' (first_text calls ++ ends_text 1 (ends_of ended)))
+        → (WasUnbound traffic faults name lines old new × Appends w w' (first_text calls))
+        ⊎ ((ended : List (Ended L)) × HasServed traffic faults name limit calls lines old new ended × (all_made (ends_of ended) ≡ false) × Appends w w' (first_text calls ++ ends_text 1 (ends_of ended)))
     by_failure (inl u) = inl (u.0, appends_behind w w1 w' (first_text calls) none u.1)
     by_failure (inr d) = inr (d.0, d.1, d.2, appends_behind w w1 w' (first_text calls ++ ends_text 1 (ends_of d.0)) none d.3)
 

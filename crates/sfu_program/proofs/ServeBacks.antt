@@ -32,12 +32,12 @@ module _ {L : Type 0} (name : L → ℕ) where
       (here ∙ all.0, named_as f g (n + 1) js es others all.1)
 
 module _ {L : Type 0} where
-  pub backs_none : (told : Option (List L)) → told ≡ after_backs [] told
+  pub backs_none : (traffic : Option (List L)) → traffic ≡ after_backs [] traffic
   backs_none None = refl
   backs_none (Some others) = ap (λ (x : List L). Some x) (sym (append-nil others))
 
   -- one more port was released
-  pub backs_more : (ports : List L) (port : L) (told : Option (List L)) → after_back port (after_backs ports told) ≡ after_backs (ports ++ port ∷ []) told
+  pub backs_more : (ports : List L) (port : L) (traffic : Option (List L)) → after_back port (after_backs ports traffic) ≡ after_backs (ports ++ port ∷ []) traffic
   backs_more ports port None = refl
   backs_more ports port (Some others) = ap (λ (x : List L). Some x) (append_assoc others ports (port ∷ []))
 
@@ -69,7 +69,7 @@ module _ {L : Type 0} where
   calm_more faults links link first before now calm counts none = let both = no_fault_last faults links link none in counts.stays both.1 ∙ calm both.0
 
 -- ports that were just bound have no faults
-pub fresh_quiet : {L : Type 0} (told : L → Option Traffic) (faults : L → ℕ) (lines : List PortLine) (jobs : List (Job L)) → AreFresh lines (befores told faults jobs) → NoFault faults (map (λ job. job.link) jobs)
-fresh_quiet told faults lines [] fresh = tt
-fresh_quiet told faults [] (job ∷ jobs) fresh = absurd fresh
-fresh_quiet told faults (line ∷ lines) (job ∷ jobs) fresh = (fresh.0.quiet, fresh_quiet told faults lines jobs fresh.1)
+pub fresh_quiet : {L : Type 0} (traffic : L → Option Traffic) (faults : L → ℕ) (lines : List PortLine) (jobs : List (Job L)) → AreFresh lines (befores traffic faults jobs) → NoFault faults (map (λ job. job.link) jobs)
+fresh_quiet traffic faults lines [] fresh = tt
+fresh_quiet traffic faults [] (job ∷ jobs) fresh = absurd fresh
+fresh_quiet traffic faults (line ∷ lines) (job ∷ jobs) fresh = (fresh.0.quiet, fresh_quiet traffic faults lines jobs fresh.1)

@@ -39,9 +39,9 @@ can_be (line.Rtx subscriber ssrc rtx_ssrc payload_type) apart = (
   seven_bits payload_type (second_true (not (rtx_ssrc == ssrc)) _ apart),
 )
 
-module _ {L : Type 0} (told : L → Option Traffic) (faults : L → ℕ) where
+module _ {L : Type 0} (traffic : L → Option Traffic) (faults : L → ℕ) where
   -- the role of each job whose port was bound for a line of a configuration is possible
-  pub can_all : (lines : List PortLine) (jobs : List (Job L)) → AreFresh lines (befores told faults jobs) → IsTrue (all_apart lines)
+  pub can_all : (lines : List PortLine) (jobs : List (Job L)) → AreFresh lines (befores traffic faults jobs) → IsTrue (all_apart lines)
       → (i : ℕ) (d : Job L) → i < length jobs → CanBe (get_or jobs i d).role
   can_all lines [] fresh apart i d low = absurd (omega (arith, low))
   can_all [] (j ∷ js) fresh apart i d low = absurd fresh

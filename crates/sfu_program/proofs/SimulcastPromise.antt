@@ -16,7 +16,7 @@ use Rattle.simulcast.specs.Bundles.{Simulcast, nothing_made}
 use Rattle.simulcast.specs.Kept.{IsKept}
 use Rattle.simulcast.proofs.Keeping.{calls_keep}
 use Rattle.sfu_program.specs.SimulcastScript.{BundleScript, bundle_script, bundle_script_so_far, script_of_lines, stops_at, with_line, with_said}
-use Rattle.sfu_program.specs.SimulcastTexts.{line_told}
+use Rattle.sfu_program.specs.SimulcastTexts.{line_replied}
 use Rattle.sfu_program.specs.SimulcastPromise.{AreBundlesServed, after_lines, left_by}
 
 -- facts about each line that the code can receive
@@ -54,7 +54,7 @@ values : (lines : List Scan) (n : ℕ) → AreLineValues (script_of_lines lines 
 values [] n = tt
 values (line ∷ lines) n = by_line line n (script_of_lines lines (n + 1)) (values lines (n + 1))
 
-line_keeps : (l : BundleLine) (h : Simulcast) → IsLineValue l → IsKept h → IsKept (line_told l h).after
+line_keeps : (l : BundleLine) (h : Simulcast) → IsLineValue l → IsKept h → IsKept (line_replied l h).after
 line_keeps (line.Room call) h value kept = calls_keep.calls h call value kept
 line_keeps (line.Bundle bundle id ssrc first legs count) h value kept = calls_keep.bundles h bundle id ssrc first (take count legs) value kept
 line_keeps (line.Choose bundle leg) h value kept = calls_keep.choices h bundle leg kept
@@ -64,7 +64,7 @@ line_keeps (line.Redraw bundle seq) h value kept = calls_keep.redraws h bundle s
 
 lines_keep : (lines : List BundleLine) (h : Simulcast) → AreLineValues lines → IsKept h → IsKept (after_lines lines h)
 lines_keep [] h all kept = kept
-lines_keep (line ∷ lines) h all kept = lines_keep lines (line_told line h).after all.1 (line_keeps line h all.0 kept)
+lines_keep (line ∷ lines) h all kept = lines_keep lines (line_replied line h).after all.1 (line_keeps line h all.0 kept)
 
 script_keeps : (script : BundleScript) → AreLineValues script.lines → IsKept (left_by script)
 script_keeps script all = lines_keep script.lines (nothing_made []) all calls_keep.begins

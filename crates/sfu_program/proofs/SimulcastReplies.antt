@@ -19,7 +19,7 @@ use Rattle.bundle_lines.specs.ReadLines.{line_of}
 use Rattle.bundle_lines.specs.declared.line.BundleLine.{BundleLine}
 use Rattle.simulcast.specs.Bundles.{Simulcast, nothing_made}
 use Rattle.sfu_program.specs.SimulcastScript.{BundleScript, bundle_script, script_of_lines, stops_at, with_line, with_said}
-use Rattle.sfu_program.specs.SimulcastTexts.{line_told}
+use Rattle.sfu_program.specs.SimulcastTexts.{line_replied}
 use Rattle.sfu_program.specs.Simulcast.{IsSimulcastStatus, bundle_reply_to, bundle_served, due_for_script, simulcast_due, simulcast_part}
 
 -- the replies to the lines of a script
@@ -37,7 +37,7 @@ by_line next others h n (Whole text) rest = by_test (leb n 4294967295) (is_skipp
         ≡ due_for_script (cond few (cond skipped others (with_said line n others)) (stops_at n)) h
     by_test true true line = rest h
     by_test true false None = refl
-    by_test true false (Some line) = ap (λ (d : Due). text_before (line_told line h).reply d) (rest (line_told line h).after)
+    by_test true false (Some line) = ap (λ (d : Due). text_before (line_replied line h).reply d) (rest (line_replied line h).after)
     by_test false skipped line = refl
 
 due_replies : (lines : List Scan) (n : ℕ) (h : Simulcast) → due_of (due_all bundle_rule lines n h) ≡ due_for_script (script_of_lines lines n) h

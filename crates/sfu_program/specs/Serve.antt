@@ -24,7 +24,7 @@ use Rattle.port_config.specs.ports.Script.{configuration_of}
 
 -- the sessions that ended: how they ended, and the traffic and faults of their links
 abbrev pub afters : {L : Type 0} → (L → Option Traffic) → (L → ℕ) → List (Ended L) → List After
-afters told faults ended = map (λ session. job_after session.end (told session.link) (faults session.link)) ended
+afters traffic faults ended = map (λ session. job_after session.end (traffic session.link) (faults session.link)) ended
 
 -- There is one history that begins with these calls by seat 0. In it each job had its session, by the seat with the job's number,
 -- counted from 1. No other seat made a call after the calls of seat 0. No session found that all tickets of the lock were drawn.
@@ -42,11 +42,11 @@ pub record HaveServed (limit : ℕ) (calls : List Call) (jobs : List Before) (en
 
 -- All ports of these lines were bound, in order. The K-th port had the session of the K-th line, on its own link. Afterwards all ports were released
 -- in this order.
-pub record HasServed {L : Type 0} (told : L → Option Traffic) (faults name : L → ℕ) (limit : ℕ) (calls : List Call) (lines : List PortLine)
+pub record HasServed {L : Type 0} (traffic : L → Option Traffic) (faults name : L → ℕ) (limit : ℕ) (calls : List Call) (lines : List PortLine)
     (old new : PortsSeen L) (ended : List (Ended L)) : Type 0 where
   pub jobs : List Before
   pub fresh : AreFresh lines jobs
-  pub served : HaveServed limit calls jobs (afters told faults ended)
+  pub served : HaveServed limit calls jobs (afters traffic faults ended)
   -- the link of the K-th session is the K-th port that was bound
   pub names : AreNamedFrom name 0 (map (λ session. session.link) ended)
   pub bound : new.bound ≡ length lines
@@ -55,25 +55,25 @@ pub record HasServed {L : Type 0} (told : L → Option Traffic) (faults name : L
 
 -- If memory ran out, no bind failed. Either no port failed, or all sessions had ended and all ports were released.
 abbrev pub Starved : {L : Type 0} → (L → Option Traffic) → (L → ℕ) → (L → ℕ) → ℕ → List Call → List PortLine → PortsSeen L → PortsSeen L → Type 0
-Starved {L} told faults name limit calls lines old new =
-    (new.faults ≡ old.faults) ⊎ ((ended : List (Ended L)) × HasServed told faults name limit calls lines old new ended)
+Starved {L} traffic faults name limit calls lines old new =
+    (new.faults ≡ old.faults) ⊎ ((ended : List (Ended L)) × HasServed traffic faults name limit calls lines old new ended)
 
 -- The outcome for the ports of these lines, after these calls.
-pub record Ends {L : Type 0} (told : L → Option Traffic) (faults name : L → ℕ) (limit : ℕ) (calls : List Call) (lines : List PortLine)
+pub record Ends {L : Type 0} (traffic : L → Option Traffic) (faults name : L → ℕ) (limit : ℕ) (calls : List Call) (lines : List PortLine)
     (written written' : Option (List ℕ)) (writes writes' : ℕ) (old new : PortsSeen L) (status : ℕ) : Type 0 where
   -- 0: each session made all its turns, and a line for each was written
-  pub done : status ≡ 0 → (ended : List (Ended L)) × HasServed told faults name limit calls lines old new ended × (all_made (ends_of ended) ≡ true)
+  pub done : status ≡ 0 → (ended : List (Ended L)) × HasServed traffic faults name limit calls lines old new ended × (all_made (ends_of ended) ≡ true)
       × Appends written written' (ends_text 1 (ends_of ended))
   -- 4: the sink failed while these lines were written
   pub sink : status ≡ 4 → Rose writes writes'
-  pub unwritten : status ≡ 4 → (ended : List (Ended L)) × HasServed told faults name limit calls lines old new ended
+  pub unwritten : status ≡ 4 → (ended : List (Ended L)) × HasServed traffic faults name limit calls lines old new ended
       × WritesPart written written' (ends_text 1 (ends_of ended))
   -- 6: memory ran out, and nothing was written; no bind failed; if a session's link failed, all ports were released
-  pub memory : status ≡ 6 → Appends written written' [] × Starved told faults name limit calls lines old new
+  pub memory : status ≡ 6 → Appends written written' [] × Starved traffic faults name limit calls lines old new
   -- 7: a port wasn't bound, so no session started; or a session's link failed, and the lines were written
   pub ports : status ≡ 7 → Rose old.faults new.faults
-  pub failed : status ≡ 7 → (WasUnbound told faults name lines old new × Appends written written' [])
-      ⊎ ((ended : List (Ended L)) × HasServed told faults name limit calls lines old new ended × (all_made (ends_of ended) ≡ false)
+  pub failed : status ≡ 7 → (WasUnbound traffic faults name lines old new × Appends written written' [])
+      ⊎ ((ended : List (Ended L)) × HasServed traffic faults name limit calls lines old new ended × (all_made (ends_of ended) ≡ false)
       × Appends written written' (ends_text 1 (ends_of ended)))
   pub only : (status ≡ 0) ⊎ (status ≡ 4) ⊎ (status ≡ 6) ⊎ (status ≡ 7)
   -- no write failed except the one that ended the command; with status 0 no bind, receive or send failed
@@ -85,22 +85,22 @@ abbrev pub serve_text : {L : Type 0} → List Call → List (Ended L) → List �
 serve_text calls ended = first_text calls ++ ends_text 1 (ends_of ended)
 
 -- The outcome for these calls and lines.
-pub record Acts {L : Type 0} (told : L → Option Traffic) (faults name : L → ℕ) (limit : ℕ) (calls : List Call) (lines : List PortLine)
+pub record Acts {L : Type 0} (traffic : L → Option Traffic) (faults name : L → ℕ) (limit : ℕ) (calls : List Call) (lines : List PortLine)
     (written written' : Option (List ℕ)) (writes writes' : ℕ) (old new : PortsSeen L) (status : ℕ) : Type 0 where
   -- 0: each session made all its turns, and all texts that are due were written
-  pub done : status ≡ 0 → (ended : List (Ended L)) × HasServed told faults name limit calls lines old new ended × (all_made (ends_of ended) ≡ true)
+  pub done : status ≡ 0 → (ended : List (Ended L)) × HasServed traffic faults name limit calls lines old new ended × (all_made (ends_of ended) ≡ true)
       × Appends written written' (serve_text calls ended)
   -- 4: the sink failed; a strict prefix of the texts that are due was written; no port was bound before the replies were written
   pub sink : status ≡ 4 → Rose writes writes'
   pub unwritten : status ≡ 4 → (WritesPart written written' (first_text calls) × (new ≡ old))
-      ⊎ ((ended : List (Ended L)) × HasServed told faults name limit calls lines old new ended × WritesPart written written' (serve_text calls ended))
+      ⊎ ((ended : List (Ended L)) × HasServed traffic faults name limit calls lines old new ended × WritesPart written written' (serve_text calls ended))
   -- 6: memory ran out; nothing was written, or only the replies to the first calls; no bind failed; if a session's link failed, all ports were released
   pub memory : status ≡ 6 → (Appends written written' [] × (new ≡ old))
-      ⊎ (Appends written written' (first_text calls) × Starved told faults name limit calls lines old new)
+      ⊎ (Appends written written' (first_text calls) × Starved traffic faults name limit calls lines old new)
   -- 7: a port wasn't bound, so no session started and only the replies were written; or a session's link failed, and all texts were written
   pub ports : status ≡ 7 → Rose old.faults new.faults
-  pub failed : status ≡ 7 → (WasUnbound told faults name lines old new × Appends written written' (first_text calls))
-      ⊎ ((ended : List (Ended L)) × HasServed told faults name limit calls lines old new ended × (all_made (ends_of ended) ≡ false)
+  pub failed : status ≡ 7 → (WasUnbound traffic faults name lines old new × Appends written written' (first_text calls))
+      ⊎ ((ended : List (Ended L)) × HasServed traffic faults name limit calls lines old new ended × (all_made (ends_of ended) ≡ false)
       × Appends written written' (serve_text calls ended))
   pub only : (status ≡ 0) ⊎ (status ≡ 4) ⊎ (status ≡ 6) ⊎ (status ≡ 7)
   -- no write failed except the one that ended the command; with status 0 no bind, receive or send failed
@@ -108,19 +108,19 @@ pub record Acts {L : Type 0} (told : L → Option Traffic) (faults name : L → 
   pub calm : status ≡ 0 → new.faults ≡ old.faults
 
 -- The source was read to its end, its bytes are a configuration, and this is the outcome for its calls and ports.
-pub record ActsOn {L : Type 0} (told : L → Option Traffic) (faults name : L → ℕ) (limit : ℕ) (left left' written written' : Option (List ℕ))
+pub record ActsOn {L : Type 0} (traffic : L → Option Traffic) (faults name : L → ℕ) (limit : ℕ) (left left' written written' : Option (List ℕ))
     (writes writes' : ℕ) (old new : PortsSeen L) (status : ℕ) : Type 0 where
   pub bytes : List ℕ
   pub consumed : Consumes left left' bytes
   pub at_end : IsAtEnd left'
   pub whole : (configuration_of bytes).fault ≡ None
-  pub acts : Acts told faults name limit (configuration_of bytes).setup.calls (configuration_of bytes).setup.ports written written' writes writes' old new status
+  pub acts : Acts traffic faults name limit (configuration_of bytes).setup.calls (configuration_of bytes).setup.ports written written' writes writes' old new status
 
 -- The effect of `serve`. No call is made and no port is bound if the source fails (3),
 -- a line is outside the grammar (5), or memory runs out for the configuration (6).
-pub record Serves {L : Type 0} (told : L → Option Traffic) (faults name : L → ℕ) (limit : ℕ) (x : Exchange) (old new : PortsSeen L) (status : ℕ) : Type 0 where
+pub record Serves {L : Type 0} (traffic : L → Option Traffic) (faults name : L → ℕ) (limit : ℕ) (x : Exchange) (old new : PortsSeen L) (status : ℕ) : Type 0 where
   pub came : (ReadsNoSetup x.left x.left' x.written x.written' x.reads x.reads' x.writes x.writes' status × (new ≡ old))
-      ⊎ ActsOn told faults name limit x.left x.left' x.written x.written' x.writes x.writes' old new status
+      ⊎ ActsOn traffic faults name limit x.left x.left' x.written x.written' x.writes x.writes' old new status
   -- the first read or write that fails ends the command; with status 0 no bind, receive or send failed
   pub first_fault : FirstFault x.reads x.reads' x.writes x.writes' status
   pub calm : status ≡ 0 → new.faults ≡ old.faults

@@ -3,7 +3,7 @@ use Rattle.std.specs.Prelude.{◌≡◌, ◌⊎◌, ◌<◌, ◌+◌, ℕ, List,
 use Rattle.std.specs.Option.{option_map}
 use Rattle.sfu_base.specs.Faults.{raised}
 use Rattle.sfu_base.specs.Links.{Traffic}
-use Rattle.sfu_base.specs.Ports.{tells_nothing_yet}
+use Rattle.sfu_base.specs.Ports.{has_no_traffic_yet}
 use Rattle.sfu_script.specs.declared.ports.PortLine.{PortLine}
 use Rattle.sfu_script.specs.declared.ports.PortRole.{PortRole}
 use Rattle.sfu_script.specs.declared.ports.PortRole.TheVariants as line
@@ -25,7 +25,7 @@ role_of (line.Rtx subscriber ssrc rtx_ssrc payload_type) = Rtx subscriber ssrc (
 pub record IsFresh (line : PortLine) (job : Before) : Type 0 where
   pub role : job.role ≡ role_of line.role
   pub quiet : job.faults ≡ 0
-  pub silent : tells_nothing_yet job.told
+  pub silent : has_no_traffic_yet job.traffic
 
 -- the same for each line and its job, in order
 abbrev pub AreFresh : List PortLine → List Before → Type 0
@@ -35,7 +35,7 @@ AreFresh _ _ = ⊥
 
 -- jobs before their sessions: their roles, and the traffic and faults of their links
 abbrev pub befores : {L : Type 0} → (L → Option Traffic) → (L → ℕ) → List (Job L) → List Before
-befores told faults jobs = map (λ job. job_before job.role (told job.link) (faults job.link)) jobs
+befores traffic faults jobs = map (λ job. job_before job.role (traffic job.link) (faults job.link)) jobs
 
 -- the links are those of the ports that were bound n-th, n + 1-th and so on, counted from 0
 abbrev pub AreNamedFrom : {L : Type 0} → (L → ℕ) → ℕ → List L → Type 0
@@ -46,7 +46,7 @@ AreNamedFrom name n (link ∷ links) = (name link ≡ n) × AreNamedFrom name (n
 
 -- these ports were released, in this order
 abbrev pub after_backs : {L : Type 0} → List L → Option (List L) → Option (List L)
-after_backs ports told = option_map (λ others. others ++ ports) told
+after_backs ports traffic = option_map (λ others. others ++ ports) traffic
 
 -- one of these links has faults
 abbrev pub SomeFault : {L : Type 0} → (L → ℕ) → List L → Type 0
@@ -69,10 +69,10 @@ abbrev pub seen_ports : {L : Type 0} → ℕ → ℕ → Option (List L) → ℕ
 seen_ports bound back returned faults = record { bound = bound; back = back; returned = returned; faults = faults }
 
 -- A port wasn't bound: one bind failed, and no further bind was made. The ports of the lines before it were bound, in order, and released.
-pub record WasUnbound {L : Type 0} (told : L → Option Traffic) (faults name : L → ℕ) (lines : List PortLine) (old new : PortsSeen L) : Type 0 where
+pub record WasUnbound {L : Type 0} (traffic : L → Option Traffic) (faults name : L → ℕ) (lines : List PortLine) (old new : PortsSeen L) : Type 0 where
   pub jobs : List (Job L)
   pub fewer : length jobs < length lines
-  pub fresh : AreFresh (take (length jobs) lines) (befores told faults jobs)
+  pub fresh : AreFresh (take (length jobs) lines) (befores traffic faults jobs)
   -- the K-th job has the K-th port
   pub names : AreNamedFrom name 0 (map (λ job. job.link) jobs)
   pub bound : new.bound ≡ length jobs

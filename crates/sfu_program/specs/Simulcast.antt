@@ -12,14 +12,14 @@ use Rattle.bundle_lines.specs.ReadLines.{line_of}
 use Rattle.bundle_lines.specs.declared.line.BundleLine.{BundleLine}
 use Rattle.simulcast.specs.Bundles.{Simulcast, nothing_made}
 use Rattle.sfu_program.specs.SimulcastScript.{BundleScript, bundle_script, bundle_script_so_far}
-use Rattle.sfu_program.specs.SimulcastTexts.{line_told}
+use Rattle.sfu_program.specs.SimulcastTexts.{line_replied}
 
 -- ---- a line
 
 -- the reply to a line, or the end at a line that isn't a call
 abbrev pub bundle_reply_to : Option BundleLine → ℕ → Simulcast → Outcome Simulcast
 bundle_reply_to None number h = ends_with Outside (fault_line number)
-bundle_reply_to (Some line) number h = writes (line_told line h).reply (line_told line h).after
+bundle_reply_to (Some line) number h = writes (line_replied line h).reply (line_replied line h).after
 
 -- what is due for the line with this number
 abbrev pub bundle_served : Simulcast → ℕ → List ℕ → Outcome Simulcast
@@ -30,7 +30,7 @@ bundle_served h number text = if is_skipped text then goes_on h else bundle_repl
 -- the replies to lines, one after another, each in the state after the earlier lines
 abbrev pub replies_text : List BundleLine → Simulcast → List ℕ
 replies_text [] h = []
-replies_text (line ∷ lines) h = (line_told line h).reply ++ replies_text lines (line_told line h).after
+replies_text (line ∷ lines) h = (line_replied line h).reply ++ replies_text lines (line_replied line h).after
 
 -- the replies, and then the line that is outside the grammar
 abbrev pub due_for_script : BundleScript → Simulcast → Due

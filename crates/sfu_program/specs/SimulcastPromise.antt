@@ -1,16 +1,16 @@
 -- The guarantees for the bundles of a script. Own statement. The replies that `simulcast` writes
--- are those of `line_told`, line after line. These guarantees hold for the state after such lines.
+-- are those of `line_replied`, line after line. These guarantees hold for the state after such lines.
 use Rattle.std.specs.Prelude.{ℕ, List, [], ◌∷◌}
 use Rattle.bundle_lines.specs.declared.line.BundleLine.{BundleLine}
 use Rattle.simulcast.specs.Bundles.{Simulcast, nothing_made}
 use Rattle.simulcast.specs.Kept.{IsPleasing}
 use Rattle.sfu_program.specs.SimulcastScript.{BundleScript, bundle_script, bundle_script_so_far}
-use Rattle.sfu_program.specs.SimulcastTexts.{line_told}
+use Rattle.sfu_program.specs.SimulcastTexts.{line_replied}
 
 -- the room's history and the bundles after these lines, one after another
 abbrev pub after_lines : List BundleLine → Simulcast → Simulcast
 after_lines [] h = h
-after_lines (line ∷ lines) h = after_lines lines (line_told line h).after
+after_lines (line ∷ lines) h = after_lines lines (line_replied line h).after
 
 -- the state after a script; before it there is no call and no bundle
 abbrev pub left_by : BundleScript → Simulcast

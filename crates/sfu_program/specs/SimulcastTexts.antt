@@ -41,17 +41,17 @@ answered_text text (Ok answer) = text answer
 answered_text text (Err why) = fault_text why
 
 -- the output line for a line of a script, and the state after it
-pub record Told : Type 0 where
+pub record Replied : Type 0 where
   pub reply : List ℕ
   pub after : Simulcast
 
-abbrev pub told : {A : Type 0} → (A → List ℕ) → Answered A → Told
-told text answered = record { reply = answered_text text answered.answer ++ 10 ∷ []; after = answered.after }
+abbrev pub replied : {A : Type 0} → (A → List ℕ) → Answered A → Replied
+replied text answered = record { reply = answered_text text answered.answer ++ 10 ∷ []; after = answered.after }
 
-abbrev pub line_told : BundleLine → Simulcast → Told
-line_told (line.Room call) h = told answer_text (room_called call h)
-line_told (line.Bundle bundle id ssrc first legs count) h = told done_text (bundle_made (just_made bundle id ssrc first (take count legs)) h)
-line_told (line.Choose bundle leg) h = told done_text (leg_chosen bundle leg h)
-line_told (line.Pump bundle) h = told pumped_text (bundle_pumped bundle h)
-line_told (line.Draw bundle) h = told packet_text (packet_drawn bundle h)
-line_told (line.Redraw bundle seq) h = told packet_text (packet_redrawn bundle seq h)
+abbrev pub line_replied : BundleLine → Simulcast → Replied
+line_replied (line.Room call) h = replied answer_text (room_called call h)
+line_replied (line.Bundle bundle id ssrc first legs count) h = replied done_text (bundle_made (just_made bundle id ssrc first (take count legs)) h)
+line_replied (line.Choose bundle leg) h = replied done_text (leg_chosen bundle leg h)
+line_replied (line.Pump bundle) h = replied pumped_text (bundle_pumped bundle h)
+line_replied (line.Draw bundle) h = replied packet_text (packet_drawn bundle h)
+line_replied (line.Redraw bundle seq) h = replied packet_text (packet_redrawn bundle seq h)

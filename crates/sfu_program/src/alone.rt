@@ -79,14 +79,15 @@ fn follow<S: Source, K: Sink>(alloc: Global, words: &[String], source: &mut S, s
     }
 }
 
-/// Executes the command in the command-line arguments `words`, if it is a single-threaded one (any but `together` and `serve`), and returns the
-/// program's status. The call always returns.
+/// Executes the single-threaded command in the command-line arguments `words`. Each command is single-threaded, except `together` and `serve`.
+/// Returns the program's status. The call always returns.
 ///
-/// Status 0: the source was read to its end, if the command reads it, and all output was written. 2: the arguments aren't such a command; nothing was read, and
-/// the usage line was written. 3: the source failed. 4: the sink failed. 5: line N (in a script of records, record N) is outside the grammar; the output due
-/// before it was written, and then `line N` or `record N`, which `convert` omits. 6: out of memory. 8: the strict receiver of `check` or `record` complains;
-/// `line N` and the complaint were written. 10: `record` found an element that isn't an OBU; `line N obu` was written, with the line of the frame's last
-/// packet. The first of these that occurs ends the call. The status stays 2, 5, 8 or 10 if the sink fails in the text of that status.
+/// Status 0: the source was read to its end, if the command reads it, and all output was written. 2: the arguments aren't a single-threaded command;
+/// nothing was read, and the usage line was written. 3: the source failed. 4: the sink failed. 5: line N, or record N in a script of records, is
+/// outside the grammar. Two texts were written: the output that was due before this line or record, and then `line N` or `record N`. `convert` writes
+/// only the first of these texts. 6: out of memory. 8: the strict receiver of `check` or `record` complains; `line N` and the complaint were written.
+/// 10: `record` found an element that isn't an OBU; `line N obu` was written, with the line of the frame's last packet. The first of these events
+/// ends the call and decides the status. Status 2, 5, 8 or 10 is returned even if the sink fails while the text of that status is written.
 pub fn sfu_alone<S: Source, K: Sink>(
     alloc: Global,
     words: &[String],

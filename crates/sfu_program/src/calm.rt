@@ -8,7 +8,7 @@ use std::alloc::Global;
 use std::sync::Wait;
 use std::thread::Threads;
 
-/// Does the same as [`sfu`]. Since nothing outside can fail, the status is 0, 2, 5, 6, 8 or 10.
+/// Does the same as [`sfu`]. The source, the sink and the ports never fail here. Therefore the status is 0, 2, 5, 6, 8 or 10.
 pub fn sfu_calm<W: Threads + Wait + Sync, C: Clock + Sync>(
     rt: &W,
     alloc: Global,

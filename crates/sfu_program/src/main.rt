@@ -1,5 +1,5 @@
-//! The program `sfu`. Its top call works over any source, sink, ports and clock; `main` passes standard input and output, UDP ports and the system's
-//! clock.
+//! The program `sfu`. Its top call, `sfu`, is generic over the source, the sink, the ports and the clock. `main` passes standard input, standard
+//! output, UDP ports and the system's clock.
 #![tactic(auto)]
 
 mod alone;

@@ -51,15 +51,17 @@ fn are_together(words: &[String]) -> bool
     }
 }
 
-/// Executes the command in the command-line arguments `words`, and returns the program's status. Only `serve` binds ports and reads the clock. Each
-/// port that `serve` bound for a session is released, unless memory runs out for the sessions.
+/// Executes the command in the command-line arguments `words`, and returns the program's status. Only the command `serve` binds ports, and only
+/// `serve` reads the clock. `serve` releases each port that it bound for a session, unless memory for the sessions runs out.
 ///
-/// Status 0: the source was read to its end, if the command reads it, and all output was written; in `serve` each session made all its turns. 2: the arguments
-/// aren't a command; nothing was read, and the usage line was written. 3: the source failed. 4: the sink failed. 5: line N (in a script of records, record N)
-/// is outside the grammar; the output due before it was written, and then `line N` or `record N`, which `convert` omits. 6: out of memory. 7: a port wasn't
-/// bound, or the link of a session failed; in the second case a line for each session was written. 8: the strict receiver of `check` or `record` complains;
-/// `line N` and the complaint were written. 10: `record` found an element that isn't an OBU; `line N obu` was written, with the line of the frame's last
-/// packet. The first of these that occurs ends the call. The status stays 2, 5, 8 or 10 if the sink fails in the text of that status.
+/// Status 0: the source was read to its end, if the command reads it, and all output was written. With `serve`, status 0 also means that each session
+/// made all its turns. 2: the arguments aren't a command; nothing was read, and the usage line was written. 3: the source failed. 4: the sink failed.
+/// 5: line N, or record N in a script of records, is outside the grammar. Two texts were written: the output that was due before this line or record,
+/// and then `line N` or `record N`. `convert` writes only the first of these texts. 6: out of memory. 7: a port wasn't bound, or the link of a
+/// session failed. If a link failed, a line for each session was written. 8: the strict receiver of `check` or `record` complains; `line N` and the
+/// complaint were written. 10: `record` found an element that isn't an OBU; `line N obu` was written, with the line of the frame's last packet. The
+/// first of these events ends the call and decides the status. Status 2, 5, 8 or 10 is returned even if the sink fails while the text of that status
+/// is written.
 pub fn sfu<W: Threads + Wait + Sync, S: Source, K: Sink, P: Ports, C: Clock + Sync>(
     rt: &W,
     alloc: Global,
@@ -91,7 +93,7 @@ pub fn sfu<W: Threads + Wait + Sync, S: Source, K: Sink, P: Ports, C: Clock + Sy
     ensures together { IsTogether (map string_bytes words.now)
         → Plays (exchange_of S.left S.faults K.written K.faults source.old source.new sink.old sink.new) result }
     ensures serve { (turns : ℕ) → IsServe (map string_bytes words.now) turns
-        → Serves P.Port.told P.Port.faults P.Port.name turns (exchange_of S.left S.faults K.written K.faults source.old source.new sink.old sink.new)
+        → Serves P.Port.traffic P.Port.faults P.Port.name turns (exchange_of S.left S.faults K.written K.faults source.old source.new sink.old sink.new)
         (seen_ports (P.bound ports.old) (P.back_count ports.old) (P.returned ports.old) (P.faults ports.old))
         (seen_ports (P.bound ports.new) (P.back_count ports.new) (P.returned ports.new) (P.faults ports.new)) result }
     ensures unserved { ¬ (IsServing (map string_bytes words.now)) → ports.new ≡ ports.old }

@@ -47,9 +47,9 @@ more places i d text lt = rw add-one (fields_more places i d text (omega arith))
 pub field_read : (places : List Field) (numbers rest word after : List ℕ) (i n : ℕ) (d : Field) (all : Option (List ℕ)) → i + 1 < length places → i < length numbers
     → cut rest ≡ Some (word, after) → field_of (get_or places i d) word ≡ Some n → with_front (take i numbers) (fields_of (drop i places) rest) ≡ all
     → with_front (take (i + 1) (set numbers i n)) (fields_of (drop (i + 1) places) after) ≡ all
-field_read places numbers rest word after i n d all lt room parts reads so_far =
+field_read places numbers rest word after i n d all lt within parts reads so_far =
     let here : fields_of (drop i places) rest ≡ (fields_of (drop (i + 1) places) after >>= (λ ns. Some (n ∷ ns))) = more places i d rest lt ∙ rw (parts, reads) refl in
-    ap (λ (front : List ℕ). with_front front (fields_of (drop (i + 1) places) after)) (take_more_set numbers i n room)
+    ap (λ (front : List ℕ). with_front front (fields_of (drop (i + 1) places) after)) (take_more_set numbers i n within)
     ∙ sym (onto_front (take i numbers) n (fields_of (drop (i + 1) places) after))
     ∙ ap (with_front (take i numbers)) (sym here) ∙ so_far
 

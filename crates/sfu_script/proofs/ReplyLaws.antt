@@ -10,7 +10,7 @@ use Rattle.std.proofs.lemmas.Bool.{and_parts}
 use Rattle.std.proofs.lemmas.List.{append-nil}
 use Rattle.hex.specs.Hex.{decode_of, encode_lower, IsBytes}
 use Rattle.hex.proofs.HexLemmas.{decode_of-encode_lower}
-use Rattle.sfu_base.specs.Answer.{Answer, Done, Sent, Named, KeyIs, Told, Refused}
+use Rattle.sfu_base.specs.Answer.{Answer, Done, Sent, Named, KeyIs, CauseIs, Refused}
 use Rattle.sfu_base.specs.declared.call.Refusal.{Refusal}
 use Rattle.sfu_base.specs.declared.call.Refusal.TheVariants as refusal
 use Rattle.sfu_base.specs.declared.call.RtpFault.TheVariants.{Short, Version, Csrc, Extension, Padding}
@@ -173,7 +173,7 @@ answer_in (name ∷ others) =
     else if bytes_eq name (codes "empty") then Some (Refused refusal.Empty)
     else if bytes_eq name (codes "notkept") then two_in 16 16 (λ oldest next. Refused (refusal.NotKept oldest next)) others
     else if bytes_eq name (codes "refused") then option_map (λ why. Refused why) (refused_in others)
-    else option_map (λ verdict. Told verdict) (verdict_in name others)
+    else option_map (λ verdict. CauseIs verdict) (verdict_in name others)
 
 -- ---- the words of each answer mean this answer
 
@@ -183,7 +183,7 @@ number_in bits n small h = (number_again bits n (decimal n) small (h, refl)).1
 ssrc_in : (n : ℕ) → n < 2 ^ 32 → ssrc_of (encode_lower (to_be_bytes w32 n)) ≡ Some n
 ssrc_in n h = (ssrc_again (encode_lower (to_be_bytes w32 n)) n (word_fills (Ssrc n) h)).1
 
-verdict_said : (verdict : Verdict) → AllWithin (verdict_places verdict) → answer_in (map word_of (verdict_places verdict)) ≡ Some (Told verdict)
+verdict_said : (verdict : Verdict) → AllWithin (verdict_places verdict) → answer_in (map word_of (verdict_places verdict)) ≡ Some (CauseIs verdict)
 verdict_said Passed h = refl
 verdict_said (NotOfTarget None) h = refl
 verdict_said (NotOfTarget (Some n)) h = let a = number_in 8 n (omega arith) h.1.0 in rw a refl
@@ -289,8 +289,8 @@ text_said (Sent bytes) h =
 text_said (Named ns) h = nonempty_text (answer_places (Named ns)) (Named ns) (are_words (answer_places (Named ns)) (plain_names ns) h) (named_said ns h.1)
 text_said (KeyIs true) h = refl
 text_said (KeyIs false) h = refl
-text_said (Told verdict) h =
-    nonempty_text (verdict_places verdict) (Told verdict) (are_words (verdict_places verdict) (plain_verdict verdict) h) (verdict_said verdict h)
+text_said (CauseIs verdict) h =
+    nonempty_text (verdict_places verdict) (CauseIs verdict) (are_words (verdict_places verdict) (plain_verdict verdict) h) (verdict_said verdict h)
 text_said (Refused why) h = nonempty_text (refusal_places why) (Refused why) (are_words (refusal_places why) (plain_refusal why) h) (refusal_said why h)
 
 pub one_answer : (one other : Answer) → HasText one → HasText other → answer_text one ≡ answer_text other → one ≡ other

@@ -28,8 +28,8 @@ fn actor_call(line: &[u8]) -> Result<(u8, Call), NoLine>
     Ok((actor, call))
 }
 
-/// Reads a line `@K LINE`, where K is the actor, 1 to 8, and LINE is the line of a call.
-/// Returns `NoLine` exactly when the line isn't of this form. Allocates no memory.
+/// Reads a line `@K LINE`. K is the actor's number, 1 to 8, and LINE is the line of a call. Returns `NoLine` exactly when the line isn't of this form.
+/// Allocates no memory.
 pub fn read_actor_line(line: &[u8]) -> Result<(u8, Call), NoLine>
     ensures value { result_ok result ≡ actor_call_of line.now }
     ensures ok { IfOk result (λ said. IsActorLine said.0 said.1 line.now) }

@@ -25,7 +25,7 @@ pub enum SubscriberCommand {
     Why,
 }
 
-/// Returns the command about a track that has this name, or `None` if there is none.
+/// Returns the track command with the name `word`, or `None` if no track command has this name.
 pub fn track_command(word: &[u8]) -> Option<TrackCommand>
     ensures { result ≡ track_command_of word.now }
 {
@@ -40,7 +40,7 @@ pub fn track_command(word: &[u8]) -> Option<TrackCommand>
     }
 }
 
-/// Returns the command about a subscriber that has this name, or `None` if there is none.
+/// Returns the subscriber command with the name `word`, or `None` if no subscriber command has this name.
 pub fn subscriber_command(word: &[u8]) -> Option<SubscriberCommand>
     ensures { result ≡ subscriber_command_of word.now }
 {

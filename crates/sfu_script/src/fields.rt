@@ -6,7 +6,7 @@ ghost use Rattle.sfu_script.specs.Fields.{field_of, fields_of, AreWithin};
 use crate::NoLine;
 use crate::words::{number8, number16, number32, number64, split, ssrc};
 
-/// The type of a field, which is one word of a line.
+/// The type of a field. A field is one word of a line.
 #[derive(Clone, Copy, Debug, PartialEq, Eq)]
 pub enum Field {
     /// A number of 8 bits, in decimal digits without a leading zero.
@@ -35,8 +35,8 @@ impl Field {
     }
 }
 
-/// Reads a text as numbers: one word for each field of `places`, with one space between words. Returns
-/// `NoLine` exactly when the text isn't of this form or `places` is empty. Allocates no memory.
+/// Reads a text as numbers: one word for each field of `places`, with one space between words. Returns `NoLine` exactly if the text isn't of this
+/// form, or if `places` is empty. Allocates no memory.
 pub fn read_fields<const N: usize>(places: &[Field; N], text: &[u8]) -> Result<[u64; N], NoLine>
     ensures value { MatchResult result (λ numbers. fields_of places.now text.now ≡ Some numbers) (λ _. fields_of places.now text.now ≡ None) }
     ensures within { IfOk result (λ numbers. AreWithin places.now numbers) }

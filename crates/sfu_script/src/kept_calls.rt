@@ -20,7 +20,8 @@ fn replace_by_packet(kept: &mut Call, packet: &[u8], track: u32, moment: u64)
     };
 }
 
-/// Turns a stored call into the call for a packet of at most 2,048 bytes. A packet call is overwritten in place; a call of another kind is replaced.
+/// Turns a stored call into the call for a packet of at most 2,048 bytes. If the stored call is already a packet call, it is overwritten in place.
+/// Otherwise it is replaced.
 #[inline(always)]
 pub fn set_packet(kept: &mut Call, track: u32, moment: u64, packet: &[u8])
     requires { length packet.now ≤ 2048 }
@@ -40,7 +41,7 @@ pub fn set_packet(kept: &mut Call, track: u32, moment: u64, packet: &[u8])
     }
 }
 
-/// Turns a stored call into a tick. A tick is overwritten in place; a call of another kind is replaced.
+/// Turns a stored call into a tick. If the stored call is already a tick, it is overwritten in place. Otherwise it is replaced.
 #[inline(always)]
 pub fn set_tick(kept: &mut Call, track: u32, moment: u64)
     ensures { kept.new ≡ call.Tick track moment }
@@ -57,7 +58,7 @@ pub fn set_tick(kept: &mut Call, track: u32, moment: u64)
     }
 }
 
-/// Turns a stored call into a take. A take is overwritten in place; a call of another kind is replaced.
+/// Turns a stored call into a take. If the stored call is already a take, it is overwritten in place. Otherwise it is replaced.
 #[inline(always)]
 pub fn set_take(kept: &mut Call, subscriber: u32)
     ensures { kept.new ≡ call.Take subscriber }
@@ -68,14 +69,15 @@ pub fn set_take(kept: &mut Call, subscriber: u32)
     }
 }
 
-/// The stored calls of a reader. Each of the most frequent kinds has a call of its own, which the next call of this kind overwrites in place.
+/// The stored calls of a reader. Each of the most frequent kinds (packet, take and tick) has its own stored call. The next call of the same kind
+/// overwrites it in place.
 #[derive(Debug, Drop)]
 pub struct KeptCalls {
-    /// The last packet.
+    /// The last packet call.
     pub packet: Call,
-    /// The last take.
+    /// The last take call.
     pub take: Call,
-    /// The last tick.
+    /// The last tick call.
     pub tick: Call,
     /// The last call of another kind.
     pub other: Call,

@@ -36,7 +36,7 @@ pub fn reads_exactly_the_packets()
     ensures { (bytes line : List ℕ) → (bytes_of line ≡ Some bytes) ↔ Fills (Hex bytes) line }
 {}
 
-/// A line is read as the call of actor K, 1 to 8, if and only if it is `@K`, then a space and a line of this call.
+/// A line is read as actor K's call if and only if it consists of `@K`, a space, and a line to which the grammar assigns this call. K is 1 to 8.
 pub fn reads_exactly_the_actors_lines()
     ensures { (actor : ℕ) (call : Call) (line : List ℕ) → (actor_call_of line ≡ Some (actor, call)) ↔ IsActorLine actor call line }
 {}

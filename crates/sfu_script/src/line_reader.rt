@@ -12,10 +12,10 @@ use crate::words::{leading32, number32, number64};
 use crate::{NoLine, read_call};
 use sfu_base::Call;
 
-/// Reads lines one after another, as [`read_call`] does, and returns a reference to each call.
+/// Reads line after line like [`read_call`], but returns a reference to the call.
 #[derive(Debug, Drop)]
 pub struct LineReader {
-    room: [u8; MOST_BYTES],
+    buf: [u8; MOST_BYTES],
     calls: KeptCalls,
 }
 
@@ -23,7 +23,7 @@ impl LineReader {
     /// Returns a reader that has read no line.
     pub fn new() -> LineReader {
         LineReader {
-            room: [0; MOST_BYTES],
+            buf: [0; MOST_BYTES],
             calls: KeptCalls::new(),
         }
     }
@@ -34,8 +34,8 @@ impl LineReader {
         ensures { MatchResult result (λ _. packet_of rest.now ≡ Some self.new.calls.packet) (λ _. packet_of rest.now ≡ None) }
     {
         let (track, moment, digits) = packet::head(rest)?;
-        let count = decode(digits, &mut self.room)?;
-        set_packet(&mut self.calls.packet, track, moment, &self.room[..count]);
+        let count = decode(digits, &mut self.buf)?;
+        set_packet(&mut self.calls.packet, track, moment, &self.buf[..count]);
         Ok(())
     }
 
@@ -93,8 +93,8 @@ impl LineReader {
         }
     }
 
-    /// Reads a line as a call, which stays valid until the next read. Returns `NoLine`
-    /// exactly when the grammar assigns no call to the line. Allocates no memory.
+    /// Reads a line as a call. The call stays valid until the next read. Returns `NoLine` exactly when the grammar assigns no call to the line.
+    /// Allocates no memory.
     #[inline(always)]
     pub fn read(&mut self, line: &[u8]) -> Result<&Call, NoLine>
         ensures value { MatchResult result (λ said. call_of line.now ≡ Some said.now) (λ _. call_of line.now ≡ None) }

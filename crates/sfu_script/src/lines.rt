@@ -15,7 +15,7 @@ use crate::words::split;
 use sfu_base::Call;
 use thiserror::Error;
 
-/// A line is outside the grammar.
+/// The error for a line that is outside the grammar.
 #[derive(Clone, Copy, Debug, PartialEq, Eq, Error)]
 #[error("the line is outside the grammar")]
 pub struct NoLine;

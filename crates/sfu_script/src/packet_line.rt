@@ -7,30 +7,30 @@ use crate::NoLine;
 use crate::hex_text::{MOST_BYTES, decode};
 use sfu_base::PacketBuf;
 
-/// Reads lines of packets, as [`read_packet`] does, and reuses one buffer for hex decoding.
+/// Reads packet lines as [`read_packet`] does, but with one buffer for hex decoding that is used again for each line.
 #[derive(Debug, Drop)]
 pub struct PacketReader {
-    room: [u8; MOST_BYTES],
+    buf: [u8; MOST_BYTES],
 }
 
 impl PacketReader {
     /// Returns a reader that has read no line.
     pub fn new() -> PacketReader {
         PacketReader {
-            room: [0; MOST_BYTES],
+            buf: [0; MOST_BYTES],
         }
     }
 
-    /// Fills `out` with the 1 to 2,048 bytes of a line of hex digits. Returns `NoLine` exactly
-    /// when the line isn't of this form, and then leaves `out` unchanged. Allocates no memory.
+    /// Reads a line that consists of the hex digits of 1 to 2,048 bytes. These bytes replace the contents of `out`. Returns `NoLine` exactly when the line
+    /// isn't of this form. In that case, `out` is unchanged. Allocates no memory.
     pub fn read(&mut self, line: &[u8], out: &mut PacketBuf) -> Result<(), NoLine>
         ensures value { MatchResult result (λ _. bytes_of line.now ≡ Some out.new) (λ _. bytes_of line.now ≡ None) }
         ensures ok { OnOk result (Fills (Hex out.new) line.now) }
         ensures none { OnErr result ((bytes : List ℕ) → ¬ (Fills (Hex bytes) line.now)) }
         ensures err { OnErr result (out.new ≡ out.old) }
     {
-        let count = decode(line, &mut self.room)?;
-        out.fill(&self.room[..count]);
+        let count = decode(line, &mut self.buf)?;
+        out.fill(&self.buf[..count]);
         Ok(())
     }
 }
@@ -41,8 +41,8 @@ impl Default for PacketReader {
     }
 }
 
-/// Fills `out` with the 1 to 2,048 bytes of a line of hex digits. Returns `NoLine` exactly
-/// when the line isn't of this form, and then leaves `out` unchanged. Allocates no memory.
+/// Reads a line that consists of the hex digits of 1 to 2,048 bytes. These bytes replace the contents of `out`. Returns `NoLine` exactly when the line
+/// isn't of this form. In that case, `out` is unchanged. Allocates no memory.
 pub fn read_packet(line: &[u8], out: &mut PacketBuf) -> Result<(), NoLine>
     ensures value { MatchResult result (λ _. bytes_of line.now ≡ Some out.new) (λ _. bytes_of line.now ≡ None) }
     ensures ok { OnOk result (Fills (Hex out.new) line.now) }

@@ -11,8 +11,8 @@ use crate::fields::read_fields;
 use crate::words::{number8, number16, split, split_at};
 use sfu_base::Address;
 
-/// The role of a port. `ssrc` is the SSRC of the publisher, or that of the packets forwarded to the subscriber.
-/// `rtx_ssrc` and `payload_type` are the SSRC and the payload type of the subscriber's retransmissions.
+/// The role of a port. `ssrc` is the SSRC of the publisher's packets, or of the packets forwarded to the subscriber. `rtx_ssrc` and `payload_type` are the
+/// SSRC and the payload type of the subscriber's retransmissions.
 #[derive(Clone, Copy, Debug, PartialEq, Eq)]
 pub enum PortRole {
     /// Receives the packets of a track.
@@ -27,7 +27,7 @@ pub enum PortRole {
     },
     /// Receives lines with calls, and sends the replies.
     Control,
-    /// Sends a subscriber's packets, and its retransmissions in a separate stream (RFC 4588); receives its feedback.
+    /// Sends a subscriber's packets, and receives its feedback. Retransmissions are sent in a separate RTP stream (RFC 4588).
     Rtx {
         subscriber: u32,
         ssrc: u32,
@@ -158,9 +158,8 @@ fn port(line: &[u8]) -> Result<PortLine, NoLine>
     }
 }
 
-/// Reads a line `port LOCAL PEER ROLE`. Both addresses are `a.b.c.d:port`. The role is `publisher T SSRC`,
-/// `subscriber S SSRC`, `control`, or `rtx S SSRC RTXSSRC PT`. In `rtx`, RTXSSRC differs from SSRC, and PT
-/// is 0 to 63 or 96 to 127. Returns `NoLine` exactly when the line isn't of this form. Allocates no memory.
+/// Reads a line `port LOCAL PEER ROLE`. Both addresses are `a.b.c.d:port`. The role is `publisher T SSRC`, `subscriber S SSRC`, `control`, or `rtx S SSRC
+/// RTXSSRC PT`. RTXSSRC differs from SSRC. PT is 0 to 63 or 96 to 127. Returns `NoLine` exactly when the line isn't of this form. Allocates no memory.
 pub fn read_port(line: &[u8]) -> Result<PortLine, NoLine>
     ensures value { result_ok result ≡ port_of line.now }
     ensures ok { IfOk result (λ said. IsPortLine said line.now) }

@@ -5,7 +5,7 @@ use crate::{
     write_obu, write_record_fault, write_reply, write_short,
 };
 use forwarding_model::Complaint;
-use sfu_base::{Blob, Call, Kind, PacketBuf, Refusal, Reply, RtpFault, Scratch, SeqList, Verdict};
+use sfu_base::{Blob, Call, Kind, PacketBuf, Refusal, Reply, RtpFault, Scratch, Verdict};
 use std::test::Fail;
 
 // A packet as three numbers: its length, its first byte and its last byte.
@@ -480,10 +480,7 @@ const REPLIES: [(Reply, &[u8]); 35] = [
 
 #[test]
 fn replies_have_their_texts(rt: HostRuntime) -> Result<(), Fail> {
-    let mut scratch = Scratch {
-        packet: PacketBuf::new(),
-        names: SeqList::new(),
-    };
+    let mut scratch = Scratch::new();
     scratch.packet.fill(b"\x80\x0f\xab");
     let mut out = Blob::new(rt.alloc());
     let mut short = PacketBuf::new();
@@ -513,10 +510,7 @@ fn replies_have_their_texts(rt: HostRuntime) -> Result<(), Fail> {
 
 #[test]
 fn texts_are_appended(rt: HostRuntime) -> Result<(), Fail> {
-    let mut scratch = Scratch {
-        packet: PacketBuf::new(),
-        names: SeqList::new(),
-    };
+    let mut scratch = Scratch::new();
     let mut out = Blob::new(rt.alloc());
     write_line_fault(1, &mut out)?;
     write_reply(&Reply::Packet, &scratch, &mut out)?;

@@ -7,7 +7,8 @@ ghost use Rattle.sfu_script.specs.Reading.{cut, cut_at, field, number_of, ssrc_o
 
 use crate::NoLine;
 
-/// Returns the text before the first byte `mark`, and the text after it. Returns `NoLine` if the text has no such byte.
+/// Splits the text at the first byte that equals `mark`. Returns the text before this byte, and the text after it. Returns `NoLine` if the text has no such
+/// byte.
 #[inline(always)]
 pub fn split_at(text: &[u8], mark: u8) -> Result<(&[u8], &[u8]), NoLine>
     ensures { MatchResult result (λ parts. cut_at mark text.now ≡ Some (parts.0.now, parts.1.now)) (λ _. cut_at mark text.now ≡ None) }
@@ -20,7 +21,8 @@ pub fn split_at(text: &[u8], mark: u8) -> Result<(&[u8], &[u8]), NoLine>
     Err(NoLine)
 }
 
-/// Returns the text before the first space, and the text after it. Returns `NoLine` if the text has no space. Allocates no memory.
+/// Splits the text at the first space. Returns the text before this space, and the text after it. Returns `NoLine` if the text has no space. Allocates no
+/// memory.
 pub fn split(text: &[u8]) -> Result<(&[u8], &[u8]), NoLine>
     ensures { MatchResult result (λ parts. cut text.now ≡ Some (parts.0.now, parts.1.now)) (λ _. cut text.now ≡ None) }
 {
@@ -61,7 +63,7 @@ fn decimal(word: &[u8]) -> Option<u64>
     Some(number)
 }
 
-/// Reads a word as a number of 64 bits in decimal digits without a leading zero.
+/// Reads a word as a 64-bit number, written in decimal digits without a leading zero.
 pub fn number64(word: &[u8]) -> Result<u64, NoLine>
     ensures { result_ok result ≡ number_of 64 word.now }
 {
@@ -74,21 +76,21 @@ pub fn number64(word: &[u8]) -> Result<u64, NoLine>
     decimal(word).ok_or(NoLine)
 }
 
-/// Does the same as `number64`, for 32 bits.
+/// Does the same as `number64`, for a 32-bit number.
 pub fn number32(word: &[u8]) -> Result<u32, NoLine>
     ensures { result_ok result ≡ number_of 32 word.now }
 {
     u32::try_from(number64(word)?).ok().ok_or(NoLine)
 }
 
-/// Does the same as `number64`, for 16 bits.
+/// Does the same as `number64`, for a 16-bit number.
 pub fn number16(word: &[u8]) -> Result<u16, NoLine>
     ensures { result_ok result ≡ number_of 16 word.now }
 {
     u16::try_from(number64(word)?).ok().ok_or(NoLine)
 }
 
-/// Does the same as `number64`, for 8 bits.
+/// Does the same as `number64`, for an 8-bit number.
 pub fn number8(word: &[u8]) -> Result<u8, NoLine>
     ensures { result_ok result ≡ number_of 8 word.now }
 {
@@ -130,7 +132,7 @@ fn any_leading(text: &[u8]) -> Result<(u64, &[u8]), NoLine>
     Ok((number64(word)?, rest))
 }
 
-/// Returns the number before the first space, as `number64` reads it, and the text after the space.
+/// Reads the word before the first space, as `number64` does. Returns the word's number, and the text after the space.
 #[inline(always)]
 pub fn leading64(text: &[u8]) -> Result<(u64, &[u8]), NoLine>
     ensures { MatchResult result (λ x. field (number_of 64) text.now ≡ Some (x.0, x.1.now)) (λ _. field (number_of 64) text.now ≡ None) }
@@ -141,7 +143,7 @@ pub fn leading64(text: &[u8]) -> Result<(u64, &[u8]), NoLine>
     any_leading(text)
 }
 
-/// Does the same as `leading64`, for a number of 32 bits.
+/// Does the same as `leading64`, for a 32-bit number.
 #[inline(always)]
 pub fn leading32(text: &[u8]) -> Result<(u32, &[u8]), NoLine>
     ensures { MatchResult result (λ x. field (number_of 32) text.now ≡ Some (x.0, x.1.now)) (λ _. field (number_of 32) text.now ≡ None) }
@@ -153,7 +155,7 @@ pub fn leading32(text: &[u8]) -> Result<(u32, &[u8]), NoLine>
     }
 }
 
-/// Reads eight hex digits as a number of 32 bits.
+/// Reads a word of eight hex digits as a 32-bit number.
 pub fn ssrc(word: &[u8]) -> Result<u32, NoLine>
     ensures { result_ok result ≡ ssrc_of word.now }
 {

@@ -17,7 +17,7 @@ keeps_on j k l p q = (q.0 ∙ p.0, q.1 ∙ p.1, q.2 ∙ p.2, q.3 ∙ p.3, q.4 �
 
 module _ {C A D : Type 0} (reply : List (Entry C) → C → A) (starved : A) (MayStarve : C → Type 0) (IsOne : D → List ℕ → Type 0) (Holds : List (Entry C) → Type 0) where
   abbrev Done : Deed C A D → Deed C A D → Known C → Known C → Option Traffic → Option Traffic → ℕ → ℕ → ℕ → Type 0
-  Done whole rest old new told told' before after turns = IsDone reply starved MayStarve IsOne Holds whole rest old new told told' before after turns
+  Done whole rest old new traffic traffic' before after turns = IsDone reply starved MayStarve IsOne Holds whole rest old new traffic traffic' before after turns
 
   still_holds : (a b c : List (Entry C)) → (b ≡ a) ⊎ Holds b → (c ≡ b) ⊎ Holds c → (c ≡ a) ⊎ Holds c
   still_holds a b c before (inr holds) = inr holds
@@ -25,15 +25,15 @@ module _ {C A D : Type 0} (reply : List (Entry C) → C → A) (starved : A) (Ma
   still_holds a b c (inr holds) (inl again) = inr (subst Holds (sym again) holds)
 
   -- nothing is done yet
-  pub begins : (whole : Deed C A D) (old : Known C) (told : Option Traffic) (faults : ℕ) → Fits old → Done whole whole old old told told faults faults 0
-  begins whole old told faults fits = record {
+  pub begins : (whole : Deed C A D) (old : Known C) (traffic : Option Traffic) (faults : ℕ) → Fits old → Done whole whole old old traffic traffic faults faults 0
+  begins whole old traffic faults fits = record {
     steps = [];
     leads = refl;
     words = sym (append-nil (words_of reply starved old.number old.seen));
     memory = tt;
     grows = prefix_self old.seen;
     holds = inl refl;
-    link = more_none told;
+    link = more_none traffic;
     short = tt;
     count = refl;
     faults = refl;
@@ -42,9 +42,9 @@ module _ {C A D : Type 0} (reply : List (Entry C) → C → A) (starved : A) (Ma
   }
 
   -- a part is done after the parts before it
-  pub joins : (whole mid rest : Deed C A D) (a b c : Known C) (told told' told'' : Option Traffic) (x y z m n : ℕ)
-      → Done whole mid a b told told' x y m → Done mid rest b c told' told'' y z n → Done whole rest a c told told'' x z (m + n)
-  joins whole mid rest a b c told told' told'' x y z m n p q = record {
+  pub joins : (whole mid rest : Deed C A D) (a b c : Known C) (traffic traffic' traffic'' : Option Traffic) (x y z m n : ℕ)
+      → Done whole mid a b traffic traffic' x y m → Done mid rest b c traffic' traffic'' y z n → Done whole rest a c traffic traffic'' x z (m + n)
+  joins whole mid rest a b c traffic traffic' traffic'' x y z m n p q = record {
     steps = p.steps ++ q.steps;
     leads = leads_on IsOne whole p.steps mid q.steps rest p.leads q.leads;
     words = q.words ∙ (ap (λ (l : List (Word C A)). l ++ said_of q.steps) p.words ∙ (append_assoc (words_of reply starved a.number a.seen) (said_of p.steps) (said_of q.steps)
@@ -52,8 +52,8 @@ module _ {C A D : Type 0} (reply : List (Entry C) → C → A) (starved : A) (Ma
     memory = subst (StarveWhereTheyMay starved MayStarve) (sym (said_append p.steps q.steps)) (starve_append starved MayStarve (said_of p.steps) (said_of q.steps) p.memory q.memory);
     grows = prefix_trans a.seen b.seen c.seen p.grows q.grows;
     holds = still_holds a.seen b.seen c.seen p.holds q.holds;
-    link = q.link ∙ (ap (with_more (received_of q.steps) (sent_of q.steps)) p.link ∙ (more_twice (received_of p.steps) (received_of q.steps) (sent_of p.steps) (sent_of q.steps) told
-        ∙ (λ i. with_more (sym (received_append p.steps q.steps) i) (sym (sent_append p.steps q.steps) i) told)));
+    link = q.link ∙ (ap (with_more (received_of q.steps) (sent_of q.steps)) p.link ∙ (more_twice (received_of p.steps) (received_of q.steps) (sent_of p.steps) (sent_of q.steps) traffic
+        ∙ (λ i. with_more (sym (received_append p.steps q.steps) i) (sym (sent_append p.steps q.steps) i) traffic)));
     short = subst AllFitBuffers (sym (received_append p.steps q.steps)) (all_fit (received_of p.steps) (received_of q.steps) p.short q.short);
     count = ap length (received_append p.steps q.steps) ∙ (length-append (received_of p.steps) (received_of q.steps) ∙ (λ i. p.count i + q.count i));
     faults = q.faults ∙ p.faults;
@@ -62,9 +62,9 @@ module _ {C A D : Type 0} (reply : List (Entry C) → C → A) (starved : A) (Ma
   }
 
   -- one receive
-  pub hears : (f : Option (List ℕ) → ℕ → Deed C A D) (got : Option (List ℕ)) (moment : ℕ) (now : Known C) (told told' : Option Traffic) (faults faults' : ℕ)
-      → Fits now → FitsBuffer got → told' ≡ with_more (got ∷ []) [] told → faults' ≡ faults → Done (Listen f) (f got moment) now now told told' faults faults' 1
-  hears f got moment now told told' faults faults' fits short link calm = record {
+  pub hears : (f : Option (List ℕ) → ℕ → Deed C A D) (got : Option (List ℕ)) (moment : ℕ) (now : Known C) (traffic traffic' : Option Traffic) (faults faults' : ℕ)
+      → Fits now → FitsBuffer got → traffic' ≡ with_more (got ∷ []) [] traffic → faults' ≡ faults → Done (Listen f) (f got moment) now now traffic traffic' faults faults' 1
+  hears f got moment now traffic traffic' faults faults' fits short link calm = record {
     steps = Heard got moment ∷ [];
     leads = leads_by IsOne (Listen f) (Heard got moment) (f got moment) refl;
     words = sym (append-nil (words_of reply starved now.number now.seen));
@@ -80,9 +80,9 @@ module _ {C A D : Type 0} (reply : List (Entry C) → C → A) (starved : A) (Ma
   }
 
   -- one datagram is sent
-  pub posts : (what : D) (packet : List ℕ) (next : Deed C A D) (now : Known C) (told told' : Option Traffic) (faults faults' : ℕ)
-      → Fits now → IsOne what packet → told' ≡ with_more [] (packet ∷ []) told → faults' ≡ faults → Done (Post what next) next now now told told' faults faults' 0
-  posts what packet next now told told' faults faults' fits is link calm = record {
+  pub posts : (what : D) (packet : List ℕ) (next : Deed C A D) (now : Known C) (traffic traffic' : Option Traffic) (faults faults' : ℕ)
+      → Fits now → IsOne what packet → traffic' ≡ with_more [] (packet ∷ []) traffic → faults' ≡ faults → Done (Post what next) next now now traffic traffic' faults faults' 0
+  posts what packet next now traffic traffic' faults faults' fits is link calm = record {
     steps = Posted packet ∷ [];
     leads = leads_by IsOne (Post what next) (Posted packet) next (is, refl);
     words = sym (append-nil (words_of reply starved now.number now.seen));
@@ -98,11 +98,11 @@ module _ {C A D : Type 0} (reply : List (Entry C) → C → A) (starved : A) (Ma
   }
 
   -- one call: its entry follows a history, and its answer is that of this history
-  pub says : (call : C) (f : A → Deed C A D) (answer : A) (is_starved : Bool) (gives : List (Entry C) → Type 0) (place : ℕ) (old new : Known C) (told : Option Traffic) (faults : ℕ)
+  pub says : (call : C) (f : A → Deed C A D) (answer : A) (is_starved : Bool) (gives : List (Entry C) → Type 0) (place : ℕ) (old new : Known C) (traffic : Option Traffic) (faults : ℕ)
       → Fits old → MakesTurn old new (entry old.number call is_starved) place gives → ((h : List (Entry C)) → gives h → (if is_starved then starved else reply h call) ≡ answer)
       → ((h : List (Entry C)) → gives h → answer ≡ starved → MayStarve call) → ((h : List (Entry C)) → gives h → Holds (h ++ entry old.number call is_starved ∷ [])) → Fits new
-      → Done (Ask call f) (f answer) old new told told faults faults 0
-  says call f answer is_starved gives place old new told faults fits t told_by starved_by holds_by fits' =
+      → Done (Ask call f) (f answer) old new traffic traffic faults faults 0
+  says call f answer is_starved gives place old new traffic faults fits t told_by starved_by holds_by fits' =
       let h : List (Entry C) = t.1.0 in
       let e : Entry C = entry old.number call is_starved in
       let w : Word C A = record { call = call; answer = answer } in
@@ -118,7 +118,7 @@ module _ {C A D : Type 0} (reply : List (Entry C) → C → A) (starved : A) (Ma
         memory = (starved_by h t.1.3, tt);
         grows = subst (IsPrefix old.seen) (sym t.1.2) (prefix_more old.seen h (e ∷ []) t.1.1);
         holds = inr (subst Holds (sym t.1.2) (holds_by h t.1.3));
-        link = more_none told;
+        link = more_none traffic;
         short = tt;
         count = refl;
         faults = refl;
@@ -127,9 +127,9 @@ module _ {C A D : Type 0} (reply : List (Entry C) → C → A) (starved : A) (Ma
       }
 
   -- a failing call on the link leaves its traffic, and everything that was done before it
-  pub still : (whole rest : Deed C A D) (old new : Known C) (told told' told'' : Option Traffic) (faults faults' turns : ℕ)
-      → Done whole rest old new told told' faults faults' turns → told'' ≡ told' → Done whole rest old new told told'' faults faults turns
-  still whole rest old new told told' told'' faults faults' turns d same = record {
+  pub still : (whole rest : Deed C A D) (old new : Known C) (traffic traffic' traffic'' : Option Traffic) (faults faults' turns : ℕ)
+      → Done whole rest old new traffic traffic' faults faults' turns → traffic'' ≡ traffic' → Done whole rest old new traffic traffic'' faults faults turns
+  still whole rest old new traffic traffic' traffic'' faults faults' turns d same = record {
     steps = d.steps;
     leads = d.leads;
     words = d.words;
@@ -145,9 +145,9 @@ module _ {C A D : Type 0} (reply : List (Entry C) → C → A) (starved : A) (Ma
   }
 
   -- a turn that found all tickets drawn changes only the number found
-  pub stays : (whole rest : Deed C A D) (old new new' : Known C) (told told' : Option Traffic) (faults faults' turns : ℕ)
-      → Done whole rest old new told told' faults faults' turns → FindsWorn new new' → Fits new' → Done whole rest old new' told told' faults faults' turns
-  stays whole rest old new new' told told' faults faults' turns d w fits =
+  pub stays : (whole rest : Deed C A D) (old new new' : Known C) (traffic traffic' : Option Traffic) (faults faults' turns : ℕ)
+      → Done whole rest old new traffic traffic' faults faults' turns → FindsWorn new new' → Fits new' → Done whole rest old new' traffic traffic' faults faults' turns
+  stays whole rest old new new' traffic traffic' faults faults' turns d w fits =
       let s : KeepsSeat new new' = (
         ap (λ (k : Known C). k.lock) w.0,
         ap (λ (k : Known C). k.first) w.0,
@@ -173,9 +173,9 @@ module _ {C A D : Type 0} (reply : List (Entry C) → C → A) (starved : A) (Ma
 
 module _ {C A D : Type 0} (reply : List (Entry C) → C → A) (starved : A) (MayStarve Wider : C → Type 0) (IsOne : D → List ℕ → Type 0) (Holds : List (Entry C) → Type 0) where
   -- more calls may run out of memory
-  pub widens : (whole rest : Deed C A D) (old new : Known C) (told told' : Option Traffic) (faults faults' turns : ℕ) → ((call : C) → MayStarve call → Wider call)
-      → IsDone reply starved MayStarve IsOne Holds whole rest old new told told' faults faults' turns → IsDone reply starved Wider IsOne Holds whole rest old new told told' faults faults' turns
-  widens whole rest old new told told' faults faults' turns wide d = record {
+  pub widens : (whole rest : Deed C A D) (old new : Known C) (traffic traffic' : Option Traffic) (faults faults' turns : ℕ) → ((call : C) → MayStarve call → Wider call)
+      → IsDone reply starved MayStarve IsOne Holds whole rest old new traffic traffic' faults faults' turns → IsDone reply starved Wider IsOne Holds whole rest old new traffic traffic' faults faults' turns
+  widens whole rest old new traffic traffic' faults faults' turns wide d = record {
     steps = d.steps;
     leads = d.leads;
     words = d.words;

@@ -35,9 +35,9 @@ ends_later before after found found' limit (Ask call f) turns (LinkFault turn) p
 ends_later before after found found' limit (Ask call f) turns Worn p e = (e.0, p e.1, e.2)
 
 -- the calls of a seat that had no entries are those of its session, in each later history in which the seat has no further entries
-pub later_words : (P : Call → Type 0) (whole : Doing) (limit : ℕ) (old new : Known Call) (history : List (Entry Call)) (told told' : Option Traffic) (before after : ℕ) (end : SessionEnd)
-    → (k : Keeps P whole limit old new told told' before after end) → own_of old.number old.seen ≡ [] → IsPrefix new.seen history → own_of old.number history ≡ new.own → words_of old.number history ≡ said_of k.done.steps
-later_words P whole limit old new history told told' before after end k none pre own =
+pub later_words : (P : Call → Type 0) (whole : Doing) (limit : ℕ) (old new : Known Call) (history : List (Entry Call)) (traffic traffic' : Option Traffic) (before after : ℕ) (end : SessionEnd)
+    → (k : Keeps P whole limit old new traffic traffic' before after end) → own_of old.number old.seen ≡ [] → IsPrefix new.seen history → own_of old.number history ≡ new.own → words_of old.number history ≡ said_of k.done.steps
+later_words P whole limit old new history traffic traffic' before after end k none pre own =
     let d = k.done in
     let n : new.number ≡ old.number = d.seat.2 in
     let had : own_of old.number new.seen ≡ new.own = ap (λ (m : ℕ). own_of m new.seen) (sym n) ∙ d.fits.own in
@@ -46,23 +46,23 @@ later_words P whole limit old new history told told' before after end k none pre
     same ∙ (ap (λ (m : ℕ). words_of m new.seen) (sym n) ∙ (d.words ∙ ap (λ (l : List (Word Call Answer)). l ++ said_of d.steps) start))
 
 -- and memory ran out only for calls that may run out of memory
-pub later_memory : (P : Call → Type 0) (whole : Doing) (limit : ℕ) (old new : Known Call) (history : List (Entry Call)) (told told' : Option Traffic) (before after : ℕ) (end : SessionEnd)
-    → Keeps P whole limit old new told told' before after end → own_of old.number old.seen ≡ [] → IsPrefix new.seen history → own_of old.number history ≡ new.own
+pub later_memory : (P : Call → Type 0) (whole : Doing) (limit : ℕ) (old new : Known Call) (history : List (Entry Call)) (traffic traffic' : Option Traffic) (before after : ℕ) (end : SessionEnd)
+    → Keeps P whole limit old new traffic traffic' before after end → own_of old.number old.seen ≡ [] → IsPrefix new.seen history → own_of old.number history ≡ new.own
     → StarveWhereTheyMay (Refused NoMemory) P (words_of old.number history)
-later_memory P whole limit old new history told told' before after end k none pre own =
-    subst (λ (l : List (Word Call Answer)). StarveWhereTheyMay (Refused NoMemory) P l) (sym (later_words P whole limit old new history told told' before after end k none pre own)) k.done.memory
+later_memory P whole limit old new history traffic traffic' before after end k none pre own =
+    subst (λ (l : List (Word Call Answer)). StarveWhereTheyMay (Refused NoMemory) P l) (sym (later_words P whole limit old new history traffic traffic' before after end k none pre own)) k.done.memory
 
 -- a session of a seat with no earlier entries is in each later history in which the seat has no further entries
-pub is_session : (P : Call → Type 0) (whole : Doing) (limit found : ℕ) (old new : Known Call) (history : List (Entry Call)) (told told' : Option Traffic) (before after : ℕ) (end : SessionEnd)
-    → Keeps P whole limit old new told told' before after end → own_of old.number old.seen ≡ [] → IsPrefix new.seen history → own_of old.number history ≡ new.own → (new.found ≡ 2 ^ 63 → found ≡ 2 ^ 63)
-    → AsksAtMost whole (10000 * limit) → IsSession whole limit old.number found history told told' before after end
-is_session P whole limit found old new history told told' before after end k none pre own worn few =
+pub is_session : (P : Call → Type 0) (whole : Doing) (limit found : ℕ) (old new : Known Call) (history : List (Entry Call)) (traffic traffic' : Option Traffic) (before after : ℕ) (end : SessionEnd)
+    → Keeps P whole limit old new traffic traffic' before after end → own_of old.number old.seen ≡ [] → IsPrefix new.seen history → own_of old.number history ≡ new.own → (new.found ≡ 2 ^ 63 → found ≡ 2 ^ 63)
+    → AsksAtMost whole (10000 * limit) → IsSession whole limit old.number found history traffic traffic' before after end
+is_session P whole limit found old new history traffic traffic' before after end k none pre own worn few =
     let d = k.done in
     record {
       steps = d.steps;
       rest = k.rest;
       leads = d.leads;
-      words = later_words P whole limit old new history told told' before after end k none pre own;
+      words = later_words P whole limit old new history traffic traffic' before after end k none pre own;
       link = d.link;
       short = d.short;
       most = few_said IsOne whole d.steps k.rest (10000 * limit) d.leads d.short few;

@@ -15,10 +15,10 @@ use Rattle.sfu_serve.proofs.Texts.{has_text}
 wrapped : (bytes : List ℕ) → IsSendable bytes → CanBeWrapped bytes
 wrapped bytes sendable = let fits = sendable.fits in record { reads = sendable.reads; fits = omega (arith, fits) }
 
-module _ (call : Call) (given : Reply) (bytes names : List ℕ) (told : is_starved given ≡ false → (history : List Entry) × (answer_of given bytes names ≡ reply_of history call)) where
+module _ (call : Call) (given : Reply) (bytes names : List ℕ) (traffic : is_starved given ≡ false → (history : List Entry) × (answer_of given bytes names ≡ reply_of history call)) where
   rises : (track : ℕ) → call ≡ Missing track → given ≡ reply.Names → 0 < length names → Rise 1023 names
   rises track asked named some =
-      let t = told (ap is_starved named) in
+      let t = traffic (ap is_starved named) in
       named_rise t.0 track names (ap (λ (g : Reply). answer_of g bytes names) (sym named) ∙ (t.1 ∙ ap (reply_of t.0) asked)) some
 
   -- the reply to a call after some history, unless memory ran out; a packet that it returns can be sent
@@ -26,5 +26,5 @@ module _ (call : Call) (given : Reply) (bytes names : List ℕ) (told : is_starv
   room_replies sendable = record {
     sendable = λ gave. wrapped bytes (sendable gave);
     rises = rises;
-    text = λ control. has_text call given bytes names control told;
+    text = λ control. has_text call given bytes names control traffic;
   }

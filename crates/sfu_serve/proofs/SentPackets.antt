@@ -196,18 +196,18 @@ module _ (way : Option Rtx) where
 
   -- What such a session sent is what its seat's takes and resends returned in the history, in order; if its last send failed, that
   -- datagram is unsent.
-  pub sent_datagrams : (subscriber ssrc limit number found : ℕ) (history : List (Entry Call)) (told told' : Option Traffic) (before after : ℕ) (end : SessionEnd)
-      → (s : IsSession (outgoing_deed subscriber ssrc way limit 0) limit number found history told told' before after end)
+  pub sent_datagrams : (subscriber ssrc limit number found : ℕ) (history : List (Entry Call)) (traffic traffic' : Option Traffic) (before after : ℕ) (end : SessionEnd)
+      → (s : IsSession (outgoing_deed subscriber ssrc way limit 0) limit number found history traffic traffic' before after end)
       → AreSent (sent_of s.steps) (datagrams_given way 0 (words_of number history)) (unsent_datagram s.rest)
-  sent_datagrams subscriber ssrc limit number found history told told' before after end s =
+  sent_datagrams subscriber ssrc limit number found history traffic traffic' before after end s =
       subst (λ (l : List Datagram). AreSent (sent_of s.steps) l (unsent_datagram s.rest)) (ap (all_given way 0) (sym s.words) ∙ words_only way 0 [] number history)
       (all_sent way 0 (outgoing_deed subscriber ssrc way limit 0) s.steps s.rest [] s.leads (deed_owes 0 subscriber ssrc limit))
 
   -- The same for what a session leaves in a seat, for the entries that the seat saw since it began.
-  pub sent_since : (MayStarve : Call → Type 0) (subscriber ssrc limit : ℕ) (old new : Known Call) (told told' : Option Traffic) (before after : ℕ) (end : SessionEnd)
-      → (k : Keeps MayStarve (outgoing_deed subscriber ssrc way limit 0) limit old new told told' before after end) (added : List (Entry Call)) → new.seen ≡ old.seen ++ added
+  pub sent_since : (MayStarve : Call → Type 0) (subscriber ssrc limit : ℕ) (old new : Known Call) (traffic traffic' : Option Traffic) (before after : ℕ) (end : SessionEnd)
+      → (k : Keeps MayStarve (outgoing_deed subscriber ssrc way limit 0) limit old new traffic traffic' before after end) (added : List (Entry Call)) → new.seen ≡ old.seen ++ added
       → AreSent (sent_of k.done.steps) (datagrams_given way 0 (words_behind new.number old.seen added)) (unsent_datagram k.rest)
-  sent_since MayStarve subscriber ssrc limit old new told told' before after end k added goes_on =
+  sent_since MayStarve subscriber ssrc limit old new traffic traffic' before after end k added goes_on =
       let said : words_behind new.number old.seen added ≡ said_of k.done.steps =
       words_since reply_after (Refused NoMemory) new.number old.number old.seen new.seen added (said_of k.done.steps) k.done.seat.2 goes_on k.done.words in
       subst (λ (l : List Datagram). AreSent (sent_of k.done.steps) l (unsent_datagram k.rest)) (ap (all_given way 0) (sym said) ∙ words_only way 0 old.seen new.number added)
@@ -254,10 +254,10 @@ unsent_bytes rest = refl
 
 -- A subscriber's session sent the packets that its seat's takes and resends returned in the history, in order. If its last send
 -- failed, that packet is unsent.
-pub sent_packets : (subscriber ssrc limit number found : ℕ) (history : List (Entry Call)) (told told' : Option Traffic) (before after : ℕ) (end : SessionEnd)
-    → (s : IsSession (subscriber_deed subscriber ssrc limit) limit number found history told told' before after end) → packets_given (words_of number history) ≡ sent_of s.steps ++ unsent s.rest
-sent_packets subscriber ssrc limit number found history told told' before after end s =
+pub sent_packets : (subscriber ssrc limit number found : ℕ) (history : List (Entry Call)) (traffic traffic' : Option Traffic) (before after : ℕ) (end : SessionEnd)
+    → (s : IsSession (subscriber_deed subscriber ssrc limit) limit number found history traffic traffic' before after end) → packets_given (words_of number history) ≡ sent_of s.steps ++ unsent s.rest
+sent_packets subscriber ssrc limit number found history traffic traffic' before after end s =
     as_bytes (packets_given (words_of number history)) (sent_of s.steps) (unsent_datagram s.rest)
     (subst (λ (l : List Datagram). AreSent (sent_of s.steps) l (unsent_datagram s.rest)) (all_bytes 0 (words_of number history))
-    (sent_datagrams None subscriber ssrc limit number found history told told' before after end s))
+    (sent_datagrams None subscriber ssrc limit number found history traffic traffic' before after end s))
     ∙ ap (λ (l : List (List ℕ)). sent_of s.steps ++ l) (unsent_bytes s.rest)

@@ -4,13 +4,13 @@ use Rattle.sfu_base.specs.Links.{Traffic, with_more}
 use Rattle.session_steps.specs.Deeds.{Deed, Step, Heard, Said, Posted, Word, Does, Leads, received_of, said_of, sent_of}
 use Rattle.sfu_serve.specs.Doing.{AllFitBuffers, StarveWhereTheyMay}
 
-pub more_twice : (us vs : List (Option (List ℕ))) (xs ys : List (List ℕ)) (told : Option Traffic) → with_more vs ys (with_more us xs told) ≡ with_more (us ++ vs) (xs ++ ys) told
+pub more_twice : (us vs : List (Option (List ℕ))) (xs ys : List (List ℕ)) (traffic : Option Traffic) → with_more vs ys (with_more us xs traffic) ≡ with_more (us ++ vs) (xs ++ ys) traffic
 more_twice us vs xs ys None = refl
-more_twice us vs xs ys (Some told) = ap Some (λ i. record { received = append_assoc told.received us vs i; sent = append_assoc told.sent xs ys i })
+more_twice us vs xs ys (Some traffic) = ap Some (λ i. record { received = append_assoc traffic.received us vs i; sent = append_assoc traffic.sent xs ys i })
 
-pub more_none : (told : Option Traffic) → told ≡ with_more [] [] told
+pub more_none : (traffic : Option Traffic) → traffic ≡ with_more [] [] traffic
 more_none None = refl
-more_none (Some told) = ap Some (λ i. record { received = sym (append-nil told.received) i; sent = sym (append-nil told.sent) i })
+more_none (Some traffic) = ap Some (λ i. record { received = sym (append-nil traffic.received) i; sent = sym (append-nil traffic.sent) i })
 
 pub all_fit : (us vs : List (Option (List ℕ))) → AllFitBuffers us → AllFitBuffers vs → AllFitBuffers (us ++ vs)
 all_fit [] vs p q = q

@@ -13,7 +13,7 @@ use Rattle.sfu_base.specs.declared.frame.Verdict.{Verdict}
 use Rattle.sfu_script.specs.Replies.{IsShort}
 use Rattle.room_core.specs.History.{Entry, reply_of, accepted}
 use Rattle.room_core.specs.Live.{Published, Joined, published, joined, highest_track, live_tracks, highest_subscriber, live_subscribers}
-use Rattle.room_core.specs.Replies.{answer, done_or, of_track, of_subscriber, told, plain_refused, plead_answer, publish_refusal, join_refusal}
+use Rattle.room_core.specs.Replies.{answer, done_or, of_track, of_subscriber, cause_answer, plain_refused, plead_answer, publish_refusal, join_refusal}
 use Rattle.room_core.specs.Views.{key_wanted_on}
 use Rattle.std.specs.Prelude.{is_some}
 use Rattle.session_steps.specs.Datagrams.{is_control}
@@ -49,10 +49,10 @@ unfolding is_short
 plead_short None = refl
 plead_short (Some p) = kind_short p.kind
 
-told_short : (r : Result Verdict Refusal) → is_short (told r) ≡ true
+cause_short : (r : Result Verdict Refusal) → is_short (cause_answer r) ≡ true
 unfolding is_short
-told_short (Ok verdict) = refl
-told_short (Err why) = refl
+cause_short (Ok verdict) = refl
+cause_short (Err why) = refl
 
 pub control_short : (past : List Call) (said : Call) → is_control said ≡ true → is_short (answer past said) ≡ true
 unfolding is_short
@@ -68,7 +68,7 @@ control_short past (call.Resend subscriber seq) e = absurd (cc e)
 control_short past (call.Missing track) e = absurd (cc e)
 control_short past (call.KeyWanted track) e = track_short (published track past) (λ p. KeyIs (key_wanted_on p.kind track past)) (λ p. refl)
 control_short past (call.Plead subscriber) e = subscriber_short (joined subscriber past) (λ j. plead_answer (published j.track past)) (λ j. plead_short (published j.track past))
-control_short past (call.Why subscriber number) e = subscriber_short (joined subscriber past) _ (λ j. told_short _)
+control_short past (call.Why subscriber number) e = subscriber_short (joined subscriber past) _ (λ j. cause_short _)
 
 not_long : (long short : Answer) → long ≡ short → is_short long ≡ false → is_short short ≡ true → ⊥
 not_long long short same isnt did = cc (ap is_short same, isnt, did)

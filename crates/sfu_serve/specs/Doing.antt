@@ -27,7 +27,7 @@ StarveWhereTheyMay starved MayStarve (word ∷ words) = (word.answer ≡ starved
 -- memory ran out. `MayStarve` says which calls may run out of memory, and `IsOne` says which bytes a
 -- datagram has. If the seat made a call, `Holds` is true of the history that the seat has seen.
 pub record IsDone {C A D : Type 0} (reply : List (Entry C) → C → A) (starved : A) (MayStarve : C → Type 0) (IsOne : D → List ℕ → Type 0)
-    (Holds : List (Entry C) → Type 0) (whole rest : Deed C A D) (old new : Known C) (told told' : Option Traffic) (before after turns : ℕ) : Type 0 where
+    (Holds : List (Entry C) → Type 0) (whole rest : Deed C A D) (old new : Known C) (traffic traffic' : Option Traffic) (before after turns : ℕ) : Type 0 where
   pub steps : List (Step C A)
   pub leads : Leads IsOne whole steps rest
   -- the seat's calls are the earlier ones, followed by those of the steps with these answers
@@ -39,7 +39,7 @@ pub record IsDone {C A D : Type 0} (reply : List (Entry C) → C → A) (starved
   -- either the seat made no call and has seen no more, or `Holds` is true of the history that it has seen
   pub holds : (new.seen ≡ old.seen) ⊎ Holds new.seen
   -- the link also reports the receives and the datagrams of the steps
-  pub link : told' ≡ with_more (received_of steps) (sent_of steps) told
+  pub link : traffic' ≡ with_more (received_of steps) (sent_of steps) traffic
   pub short : AllFitBuffers (received_of steps)
   pub count : length (received_of steps) ≡ turns
   -- no call on the link failed

@@ -37,8 +37,8 @@ pub record HasHeadline (history : List (Entry Call)) : Type 0 where
 -- Steps with this many receives lead from a session's rule `whole` to `rest`, which remains.
 -- The seat and the link went from old to new. Only calls that may run out of memory did so.
 abbrev pub Done : (Call → Type 0) → Doing → Doing → Known Call → Known Call → Option Traffic → Option Traffic → ℕ → ℕ → ℕ → Type 0
-Done MayStarve whole rest old new told told' before after turns =
-    IsDone reply_after (Refused NoMemory) MayStarve IsOne HasHeadline whole rest old new told told' before after turns
+Done MayStarve whole rest old new traffic traffic' before after turns =
+    IsDone reply_after (Refused NoMemory) MayStarve IsOne HasHeadline whole rest old new traffic traffic' before after turns
 
 -- no call may run out of memory
 abbrev pub NoneMayStarve : Call → Type 0
@@ -60,9 +60,9 @@ MeetsEnd before after found limit (Ask call f) turns Worn = (after ≡ before) �
 MeetsEnd before after found limit rest turns end = ⊥
 
 -- The effect of a session of `limit` turns on its seat and its link. No call on the link failed before the call, if any, that ended the session.
-pub record Keeps (MayStarve : Call → Type 0) (whole : Doing) (limit : ℕ) (old new : Known Call) (told told' : Option Traffic)
+pub record Keeps (MayStarve : Call → Type 0) (whole : Doing) (limit : ℕ) (old new : Known Call) (traffic traffic' : Option Traffic)
     (before after : ℕ) (end : SessionEnd) : Type 0 where
   pub rest : Doing
   pub turns : ℕ
-  pub done : Done MayStarve whole rest old new told told' before before turns
+  pub done : Done MayStarve whole rest old new traffic traffic' before before turns
   pub ends : MeetsEnd before after new.found limit rest turns end

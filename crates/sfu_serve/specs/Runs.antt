@@ -29,7 +29,7 @@ CanBe role = Unit {0}
 
 -- A session of the seat with this number, as seen in any later history. The seat had no
 -- entries before. `found` is the greatest ticket number that was found in that history.
-pub record IsSession (whole : Doing) (limit number found : ℕ) (history : List (Entry Call)) (told told' : Option Traffic) (before after : ℕ)
+pub record IsSession (whole : Doing) (limit number found : ℕ) (history : List (Entry Call)) (traffic traffic' : Option Traffic) (before after : ℕ)
     (end : SessionEnd) : Type 0 where
   pub steps : List (Step Call Answer)
   pub rest : Doing
@@ -37,7 +37,7 @@ pub record IsSession (whole : Doing) (limit number found : ℕ) (history : List 
   -- the seat's entries are the calls of the steps, with their answers in the history
   pub words : words_of number history ≡ said_of steps
   -- the link also reports the receives and the datagrams of the steps
-  pub link : told' ≡ with_more (received_of steps) (sent_of steps) told
+  pub link : traffic' ≡ with_more (received_of steps) (sent_of steps) traffic
   pub short : AllFitBuffers (received_of steps)
   -- at most 10,000 calls per turn: feedback of 2,048 bytes has at most 8,704 items, and at most 32 takes follow
   pub most : length (said_of steps) ≤ 10000 * limit
@@ -46,26 +46,26 @@ pub record IsSession (whole : Doing) (limit number found : ℕ) (history : List 
 -- a job before its session: its role, what its link reports and the link's count of faults
 pub record Before : Type 0 where
   pub role : Role
-  pub told : Option Traffic
+  pub traffic : Option Traffic
   pub faults : ℕ
 
 -- a job after its session
 pub record After : Type 0 where
   pub end : SessionEnd
-  pub told : Option Traffic
+  pub traffic : Option Traffic
   pub faults : ℕ
 
 abbrev pub job_before : Role → Option Traffic → ℕ → Before
-job_before role told faults = record { role = role; told = told; faults = faults }
+job_before role traffic faults = record { role = role; traffic = traffic; faults = faults }
 
 abbrev pub job_after : SessionEnd → Option Traffic → ℕ → After
-job_after end told faults = record { end = end; told = told; faults = faults }
+job_after end traffic faults = record { end = end; traffic = traffic; faults = faults }
 
 -- each job and its end have a session; the first job has the seat with this number, and each later job has the next seat
 abbrev pub AreSessions : ℕ → ℕ → List (Entry Call) → ℕ → List Before → List After → Type 0
 AreSessions limit found history number [] [] = Unit {0}
 AreSessions limit found history number (job ∷ jobs) (ended ∷ others) =
-    IsSession (deed_of job.role limit) limit number found history job.told ended.told job.faults ended.faults ended.end
+    IsSession (deed_of job.role limit) limit number found history job.traffic ended.traffic job.faults ended.faults ended.end
     × AreSessions limit found history (number + 1) jobs others
 AreSessions limit found history number _ _ = ⊥
 

@@ -47,15 +47,15 @@ impl<'a, R: Recorder, C, W> Stage<'a, R, C, W> {
     }
 }
 
-/// Receives a datagram, and then reads the clock. Returns whether a datagram came, and the moment. If the receive fails, returns the failure without reading
-/// the clock. Each turn of a session calls `listen` exactly once, even if the session doesn't use the results (own rule).
+/// Receives a datagram, and then reads the clock. Returns whether a datagram came, and the moment read from the clock. If the receive fails, returns
+/// the failure without reading the clock. Each turn of a session calls `listen` exactly once, even if the session doesn't use the results (own rule).
 fn listen<L: Link, C: Clock>(
     link: &mut L,
     clock: &C,
     into: &mut PacketBuf,
 ) -> Result<(bool, u64), Failed>
-    ensures heard { IfOk result (λ heard. L.told link.new ≡ with_more (datagram heard.0 into.new ∷ []) [] (L.told link.old)) }
-    ensures unheard { IfErr result (λ failed. L.told link.new ≡ L.told link.old) }
+    ensures heard { IfOk result (λ heard. L.traffic link.new ≡ with_more (datagram heard.0 into.new ∷ []) [] (L.traffic link.old)) }
+    ensures unheard { IfErr result (λ failed. L.traffic link.new ≡ L.traffic link.old) }
     ensures name { L.name link.new ≡ L.name link.old }
     ensures cause { HasCause (L.faults link.old) (L.faults link.new) result }
     ensures bounded { length into.new ≤ 2048 }
@@ -68,8 +68,8 @@ fn listen<L: Link, C: Clock>(
 /// Sends the datagram in `packet`, if `output` says that the session's step returned a datagram.
 fn send_output<L: Link>(link: &mut L, output: Output, packet: &PacketBuf) -> Result<(), Failed>
     ensures sent { IfOk result (λ sent. (whole rest : Doing) (seat : Known CallData) → Fits seat → GoesOn whole rest packet.now output
-        → Done NoneMayStarve whole rest seat seat (L.told link.old) (L.told link.new) (L.faults link.old) (L.faults link.new) 0) }
-    ensures unsent { IfErr result (λ failed. (output ≡ Output.Packet) × (L.told link.new ≡ L.told link.old) × FailedOnce (L.faults link.old) (L.faults link.new)) }
+        → Done NoneMayStarve whole rest seat seat (L.traffic link.old) (L.traffic link.new) (L.faults link.old) (L.faults link.new) 0) }
+    ensures unsent { IfErr result (λ failed. (output ≡ Output.Packet) × (L.traffic link.new ≡ L.traffic link.old) × FailedOnce (L.faults link.old) (L.faults link.new)) }
     ensures name { L.name link.new ≡ L.name link.old }
 {
     match output {
@@ -78,9 +78,9 @@ fn send_output<L: Link>(link: &mut L, output: Output, packet: &PacketBuf) -> Res
     }
 }
 
-/// Runs a session for `stage.limit` turns. The session must wait for a datagram when `run_session` is called. Each turn receives a datagram or none, reads
-/// the clock, and then makes the session's calls and sends its datagrams. The session ends early if a call on the link fails or the lock has no ticket left
-/// (own rule).
+/// Runs a session for `stage.limit` turns. When `run_session` is called, the session must be waiting for a datagram. Each turn receives a datagram or
+/// none, reads the clock, and then makes the session's calls and sends its datagrams. The session ends early if a call on the link fails or the lock
+/// has no ticket left (own rule).
 pub fn run_session<R: Recorder, S: Session, L: Link, C: Clock, W: Wait + Sync>(
     stage: &Stage<'_, R, C, W>,
     seat: &mut Seat<SharedRoom<R>>,
@@ -91,7 +91,7 @@ pub fn run_session<R: Recorder, S: Session, L: Link, C: Clock, W: Wait + Sync>(
     requires lock { seat.old.lock ≡ stage.now.turns.now }
     requires waits { (turns : ℕ) → Waits (S.left session.old turns) turns }
     ensures keeps { Keeps (MayStarve R.may_refuse) (S.left session.old stage.now.limit) stage.now.limit
-        seat.old seat.new (L.told link.old) (L.told link.new) (L.faults link.old) (L.faults link.new) result }
+        seat.old seat.new (L.traffic link.old) (L.traffic link.new) (L.faults link.old) (L.faults link.new) result }
     ensures name { L.name link.new ≡ L.name link.old }
 {
     seat.lemma_fits();

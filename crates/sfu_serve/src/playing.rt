@@ -14,7 +14,7 @@ use crate::run::{Ended, Job, Role};
 use crate::sessions::{control_session, publisher_session, rtx_session, subscriber_session};
 use crate::shared_room::SharedRoom;
 use room_core::Recorder;
-use sfu_base::{Clock, Link, NoMemory, PacketBuf, Scratch, SeqList};
+use sfu_base::{Clock, Link, NoMemory, Scratch};
 use std::alloc::Global;
 use std::sync::Wait;
 use std::thread;
@@ -61,8 +61,8 @@ pub fn cast<R: Recorder, L: Link + Drop>(
     ensures kept { (seat.new.lock ≡ seat.old.lock) × (seat.new.number ≡ seat.old.number) × (seat.new.seen ≡ seat.old.seen) × (seat.new.found ≡ seat.old.found) }
     ensures split { IfOk result (λ seated. seat.new ≡ counting seat.old (1 + length jobs.items)) }
     ensures fits { IfOk result (λ seated. Fits seat.new) }
-    ensures seated { IfOk result (λ seated. map (λ s. seated_job s.seat (job_before s.job.role (L.told s.job.link) (L.faults s.job.link))) seated.items
-        ≡ seated_from seat.old 1 (map (λ j. job_before j.role (L.told j.link) (L.faults j.link)) jobs.items)) }
+    ensures seated { IfOk result (λ seated. map (λ s. seated_job s.seat (job_before s.job.role (L.traffic s.job.link) (L.faults s.job.link))) seated.items
+        ≡ seated_from seat.old 1 (map (λ j. job_before j.role (L.traffic j.link) (L.faults j.link)) jobs.items)) }
     ensures names { IfOk result (λ seated. map (λ s. L.name s.job.link) seated.items ≡ map (λ j. L.name j.link) jobs.items) }
 {
     let mut seated = Vec::new(alloc);
@@ -84,7 +84,7 @@ fn session<R: Recorder, L: Link, C: Clock, W: Wait + Sync>(
     requires lock { seat.old.lock ≡ stage.now.turns.now }
     requires role { CanBe role }
     ensures keeps { Keeps (MayStarve R.may_refuse) (deed_of role stage.now.limit) stage.now.limit
-        seat.old seat.new (L.told link.old) (L.told link.new) (L.faults link.old) (L.faults link.new) result }
+        seat.old seat.new (L.traffic link.old) (L.traffic link.new) (L.faults link.old) (L.faults link.new) result }
     ensures name { L.name link.new ≡ L.name link.old }
 {
     let Stage {
@@ -119,13 +119,10 @@ fn perform<R: Recorder, L: Link, C: Clock, W: Wait + Sync>(
     requires lock { seated.seat.lock ≡ stage.now.turns.now }
     requires role { CanBe seated.job.role }
     ensures keeps { Keeps (MayStarve R.may_refuse) (deed_of seated.job.role stage.now.limit) stage.now.limit
-        seated.seat result.seat (L.told seated.job.link) (L.told result.link) (L.faults seated.job.link) (L.faults result.link) result.end }
+        seated.seat result.seat (L.traffic seated.job.link) (L.traffic result.link) (L.faults seated.job.link) (L.faults result.link) result.end }
     ensures name { L.name result.link ≡ L.name seated.job.link }
 {
-    let mut scratch = Scratch {
-        packet: PacketBuf::new(),
-        names: SeqList::new(),
-    };
+    let mut scratch = Scratch::new();
     let Seated { mut seat, job } = seated;
     let Job { role, mut link } = job;
     let end = session(stage, &mut seat, role, &mut link, &mut scratch);
@@ -142,8 +139,8 @@ pub fn play<R: Recorder + Send, L: Link + Send + Drop, C: Clock + Sync, W: Threa
 ) -> Result<Vec<Played<R, L>>, NoMemory>
     requires ready { All (λ s. (s.seat.lock ≡ turns.now) × CanBe s.job.role) seated.items }
     ensures played { IfOk result (λ played. ArePlayed (MayStarve R.may_refuse) limit
-        (map (λ s. seated_job s.seat (job_before s.job.role (L.told s.job.link) (L.faults s.job.link))) seated.items)
-        (map (λ p. played_job p.seat (job_after p.end (L.told p.link) (L.faults p.link))) played.items)) }
+        (map (λ s. seated_job s.seat (job_before s.job.role (L.traffic s.job.link) (L.faults s.job.link))) seated.items)
+        (map (λ p. played_job p.seat (job_after p.end (L.traffic p.link) (L.faults p.link))) played.items)) }
     ensures names { IfOk result (λ played. map (λ p. L.name p.link) played.items ≡ map (λ s. L.name s.job.link) seated.items) }
 {
     let Ok(played) = thread::map_vec(
@@ -152,7 +149,7 @@ pub fn play<R: Recorder + Send, L: Link + Send + Drop, C: Clock + Sync, W: Threa
         &move |one: Seated<R, L>| -> Played<R, L>
             requires { (one.seat.lock ≡ turns.now) × CanBe one.job.role }
             ensures keeps { Keeps (MayStarve R.may_refuse) (deed_of one.job.role limit) limit
-                one.seat result.seat (L.told one.job.link) (L.told result.link) (L.faults one.job.link) (L.faults result.link) result.end }
+                one.seat result.seat (L.traffic one.job.link) (L.traffic result.link) (L.faults one.job.link) (L.faults result.link) result.end }
             ensures name { L.name result.link ≡ L.name one.job.link }
         { perform(&Stage::new(rt, turns, clock, limit), one) },
     ) else {
@@ -177,8 +174,8 @@ pub fn gather<R: Recorder, L: Link + Drop>(
     ensures grows { IsPrefix seat.old.seen seat.new.seen × (seat.old.found ≤ seat.new.found) }
     ensures fits { IfOk result (λ ended. Fits seat.new) }
     ensures joined { IfOk result (λ ended. HaveJoined seat.old (map (λ p. p.seat) played.items) seat.new) }
-    ensures ended { IfOk result (λ ended. map (λ e. job_after e.end (L.told e.link) (L.faults e.link)) ended.items
-        ≡ map (λ p. job_after p.end (L.told p.link) (L.faults p.link)) played.items) }
+    ensures ended { IfOk result (λ ended. map (λ e. job_after e.end (L.traffic e.link) (L.faults e.link)) ended.items
+        ≡ map (λ p. job_after p.end (L.traffic p.link) (L.faults p.link)) played.items) }
     ensures names { IfOk result (λ ended. map (λ e. L.name e.link) ended.items ≡ map (λ p. L.name p.link) played.items) }
 {
     let mut ended = Vec::new(alloc);

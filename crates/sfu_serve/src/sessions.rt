@@ -15,10 +15,11 @@ use sfu_base::{Clock, Link, Scratch};
 use std::sync::Wait;
 use turn_lock::{Seat, Turns};
 
-/// Runs a publisher's session of `limit` turns. Each turn adds the received RTP packet, if any, to the track, and then ticks the track. In the first turn,
-/// and then at intervals of at least 20 milliseconds, the session queries which packets are missing and whether a key frame is wanted. The session sends one
-/// NACK (RFC 4585, section 6.2.1) for all missing packets. If a key frame is wanted, it sends a picture loss indication (section 6.3.1), at least 500
-/// milliseconds after the previous one. The session ends early if a call on the link fails or the lock has no ticket left.
+/// Runs a publisher's session of `limit` turns. Each turn adds the received RTP packet, if any, to the track, and then ticks the track. In the first
+/// turn, and then at intervals of at least 20 milliseconds, the session queries which packets are missing and whether a key frame is wanted. The
+/// session sends one NACK (RFC 4585, section 6.2.1) for all missing packets. If a key frame is wanted, the session sends a picture loss indication
+/// (section 6.3.1), unless less than 500 milliseconds have passed since the previous one. The session ends early if a call on the link fails or the
+/// lock has no ticket left.
 pub fn publisher_session<R: Recorder, L: Link, C: Clock, W: Wait + Sync>(
     rt: &W,
     turns: &Turns<SharedRoom<R>>,
@@ -32,7 +33,7 @@ pub fn publisher_session<R: Recorder, L: Link, C: Clock, W: Wait + Sync>(
 ) -> SessionEnd
     requires lock { seat.old.lock ≡ turns.now }
     ensures keeps { Keeps (MayStarve R.may_refuse) (publisher_deed track ssrc limit None None) limit
-        seat.old seat.new (L.told link.old) (L.told link.new) (L.faults link.old) (L.faults link.new) result }
+        seat.old seat.new (L.traffic link.old) (L.traffic link.new) (L.faults link.old) (L.faults link.new) result }
     ensures name { L.name link.new ≡ L.name link.old }
 {
     let stage = Stage::new(rt, turns, clock, limit);
@@ -62,7 +63,7 @@ pub fn subscriber_session<R: Recorder, L: Link, C: Clock, W: Wait + Sync>(
 ) -> SessionEnd
     requires lock { seat.old.lock ≡ turns.now }
     ensures keeps { Keeps (MayStarve R.may_refuse) (subscriber_deed subscriber ssrc limit) limit
-        seat.old seat.new (L.told link.old) (L.told link.new) (L.faults link.old) (L.faults link.new) result }
+        seat.old seat.new (L.traffic link.old) (L.traffic link.new) (L.faults link.old) (L.faults link.new) result }
     ensures name { L.name link.new ≡ L.name link.old }
 {
     let stage = Stage::new(rt, turns, clock, limit);
@@ -89,9 +90,9 @@ pub fn rtx_session<R: Recorder, L: Link, C: Clock, W: Wait + Sync>(
     requires apart { rtx.now.ssrc ≢ ssrc }
     requires payload_type { rtx.now.payload_type < 128 }
     ensures keeps { Keeps (MayStarve R.may_refuse) (rtx_deed subscriber ssrc rtx.now limit) limit
-        seat.old seat.new (L.told link.old) (L.told link.new) (L.faults link.old) (L.faults link.new) result }
+        seat.old seat.new (L.traffic link.old) (L.traffic link.new) (L.faults link.old) (L.faults link.new) result }
     ensures sends { SendsWhatItWasGiven (MayStarve R.may_refuse) subscriber ssrc rtx.now limit
-        seat.old seat.new (L.told link.old) (L.told link.new) (L.faults link.old) (L.faults link.new) result }
+        seat.old seat.new (L.traffic link.old) (L.traffic link.new) (L.faults link.old) (L.faults link.new) result }
     ensures name { L.name link.new ≡ L.name link.old }
 {
     let stage = Stage::new(rt, turns, clock, limit);
@@ -113,7 +114,7 @@ pub fn control_session<R: Recorder, L: Link, C: Clock, W: Wait + Sync>(
 ) -> SessionEnd
     requires lock { seat.old.lock ≡ turns.now }
     ensures keeps { Keeps (MayStarve R.may_refuse) (control_deed limit) limit
-        seat.old seat.new (L.told link.old) (L.told link.new) (L.faults link.old) (L.faults link.new) result }
+        seat.old seat.new (L.traffic link.old) (L.traffic link.new) (L.faults link.old) (L.faults link.new) result }
     ensures name { L.name link.new ≡ L.name link.old }
 {
     let stage = Stage::new(rt, turns, clock, limit);

@@ -56,7 +56,7 @@ all_written script entries eight have is =
     let whole : Written is.history = subst Written (sym m.parts)
     (written_append (map (made_by 0) script.opening) (m.middle ++ map (made_by 0) script.closing) (written_calls 0 script.opening have.opening)
     (written_append m.middle (map (made_by 0) script.closing) middle (written_calls 0 script.closing have.closing))) in
-    subst (λ (l : List journal.Entry). All (λ e. HasBytes e.call) l) (sym is.told) (written_journal [] is.history whole)
+    subst (λ (l : List journal.Entry). All (λ e. HasBytes e.call) l) (sym is.reported) (written_journal [] is.history whole)
   where
     by_seat : (k : ℕ) → 0 < k → k ≤ 8 → Written (own k is.made.middle)
     by_seat zero pos le = absurd (omega arith)

@@ -204,17 +204,17 @@ module _ {lock : TableId} {script : Actors} {root joined last : Known Call} {don
 
   mine_first : (e : Ended lock script root joined last dones first_kept last_kept) → mine 0 (placed last.seen) ≡ first_kept ++ last_kept
   mine_first e =
-      let closing : mine 0 (placed last.seen) ≡ mine 0 (placed joined.seen) ++ last_kept = subst (λ (n : ℕ). mine n (placed last.seen) ≡ mine n (placed joined.seen) ++ last_kept) (joined_number e) e.closing.told in
+      let closing : mine 0 (placed last.seen) ≡ mine 0 (placed joined.seen) ++ last_kept = subst (λ (n : ℕ). mine n (placed last.seen) ≡ mine n (placed joined.seen) ++ last_kept) (joined_number e) e.closing.reported in
       let between : mine 0 (placed joined.seen) ≡ mine 0 (placed root.seen) = mine_same 0 root.seen joined.seen e.joins.goes_on (joined_own e ∙ (sym (root_whole e) ∙ sym (own_whole root.seen (root_below e)))) in
-      closing ∙ ap (λ (l : List Placed). l ++ last_kept) (between ∙ e.opening.told)
+      closing ∙ ap (λ (l : List Placed). l ++ last_kept) (between ∙ e.opening.reported)
 
   mine_done : (e : Ended lock script root joined last dones first_kept last_kept) → (i : ℕ) (d : Done) → get_elem? dones i ≡ some d → d.kept.items ≡ mine (i + 1) (placed last.seen)
   mine_done e i d at =
       let acts = (e.done i d at).2.acts in
       let before : mine (i + 1) (placed root.seen) ≡ [] = mine_none [] (i + 1) root.seen (root_none e (i + 1) (omega arith)) in
-      let told : mine (i + 1) (placed d.seat.seen) ≡ d.kept.items = acts.told ∙ ap (λ (l : List Placed). l ++ d.kept.items) before in
+      let reported : mine (i + 1) (placed d.seat.seen) ≡ d.kept.items = acts.reported ∙ ap (λ (l : List Placed). l ++ d.kept.items) before in
       let later : IsPrefix d.seat.seen last.seen = prefix_trans d.seat.seen joined.seen last.seen (e.joins.each i d at).1 e.closing.goes_on in
-      sym told ∙ sym (mine_same (i + 1) d.seat.seen last.seen later (done_last e i d at ∙ sym (done_own e i d at)))
+      sym reported ∙ sym (mine_same (i + 1) d.seat.seen last.seen later (done_last e i d at ∙ sym (done_own e i d at)))
 
 parts_kept : (ps : List Placed) (ds : List Done) (n : ℕ) → ((i : ℕ) (d : Done) → get_elem? ds i ≡ some d → d.kept.items ≡ mine (n + i) ps) → parts n ps ++ kept_by ds ≡ parts (n + length ds) ps
 parts_kept ps [] n each = append-nil (parts n ps) ∙ ap (λ (m : ℕ). parts m ps) (let q : n ≡ n + 0 = omega arith in q)
@@ -264,12 +264,12 @@ ended_of lock script start root counted joined last opening closing dones first_
   small = small;
 }
 
-pub journal_told : (lock : TableId) (script : Actors) (root joined last : Known Call) (dones : List Done) (first_kept last_kept kept : List Placed) (entries : List journal.Entry)
+pub journal_reported : (lock : TableId) (script : Actors) (root joined last : Known Call) (dones : List Done) (first_kept last_kept kept : List Placed) (entries : List journal.Entry)
     → Ended lock script root joined last dones first_kept last_kept → last.found ≤ last.first + length last.seen → AreWellFormed (accepted (entries_of last.seen)) → kept ≡ (first_kept ++ kept_by dones) ++ last_kept
     → ((all : List Placed) → IsPermutation all kept → AtPlaces 0 all → entries ≡ map (λ turn. turn.entry) all) → IsJournal script entries
-journal_told lock script root joined last dones first_kept last_kept kept entries e found well is told = record {
+journal_reported lock script root joined last dones first_kept last_kept kept entries e found well is reported = record {
   history = entries_of last.seen;
   made = is_made e found;
-  told = told (placed last.seen) (subst (IsPermutation (placed last.seen)) (sym is) (is_kept e)) (all_at_places last.seen) ∙ journal_placed [] last.seen;
+  reported = reported (placed last.seen) (subst (IsPermutation (placed last.seen)) (sym is) (is_kept e)) (all_at_places last.seen) ∙ journal_placed [] last.seen;
   headline = headline (entries_of last.seen) well;
 }

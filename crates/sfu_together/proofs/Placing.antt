@@ -10,7 +10,7 @@ use Rattle.turn_lock.specs.History.{AllBelow, own_of}
 use Rattle.turn_lock.proofs.Histories.{own_append, own_here}
 use Rattle.sfu_together.specs.Turns.{entries_of, entry_of}
 use Rattle.port_config.specs.declared.actors.turns.Placed.{Placed}
-use Rattle.sfu_together.specs.History.{journal_from, told_of}
+use Rattle.sfu_together.specs.History.{journal_from, journal_entry_of}
 use Rattle.port_config.proofs.Sorting.{AreBelow}
 use Rattle.sfu_together.specs.Acting.{placed, placed_at, placed_from}
 use Rattle.port_config.specs.actors.Places.{AtPlaces, mine}
@@ -63,7 +63,7 @@ mine_turn n seen h seen' e own pre is by had has =
 pub journal_placed : (past h : List (Entry Call)) → map (λ p. p.entry) (placed_from past h) ≡ journal_from (entries_of past) (entries_of h)
 journal_placed past [] = refl
 journal_placed past (e ∷ h) =
-    ap (λ (l : List journal.Entry). told_of (entries_of past) e.seat e.call ∷ l) (journal_placed (past ++ e ∷ []) h ∙ ap (λ (l : List RoomEntry). journal_from l (entries_of h)) (map-append entry_of past (e ∷ [])))
+    ap (λ (l : List journal.Entry). journal_entry_of (entries_of past) e.seat e.call ∷ l) (journal_placed (past ++ e ∷ []) h ∙ ap (λ (l : List RoomEntry). journal_from l (entries_of h)) (map-append entry_of past (e ∷ [])))
 
 -- ---- places
 

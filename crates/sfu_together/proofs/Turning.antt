@@ -10,7 +10,7 @@ use Rattle.turn_lock.specs.Known.{FindsWorn, Fits, KeepsSeat, Known, MakesTurn}
 use Rattle.turn_lock.proofs.Lists.{prefix_self, prefix_trans}
 use Rattle.sfu_together.specs.Turns.{entries_of}
 use Rattle.port_config.specs.declared.actors.turns.Placed.{Placed}
-use Rattle.sfu_together.specs.History.{told_of}
+use Rattle.sfu_together.specs.History.{journal_entry_of}
 use Rattle.sfu_together.specs.Acting.{Acts, placed, placed_at, turn_of}
 use Rattle.port_config.specs.actors.Places.{mine}
 use Rattle.sfu_together.proofs.Placing.{mine_turn}
@@ -22,7 +22,7 @@ pub record Turned (o k : Known Call) (calls : List Call) (i : ℕ) (kept : List 
   pub goes_on : IsPrefix o.seen k.seen
   pub made : k.own ≡ o.own ++ map (turn_of o.number) (take i calls)
   pub few : length k.own ≡ length o.own + i
-  pub told : mine o.number (placed k.seen) ≡ mine o.number (placed o.seen) ++ kept
+  pub reported : mine o.number (placed k.seen) ≡ mine o.number (placed o.seen) ++ kept
 
 pub none_turned : (o : Known Call) (calls : List Call) (kept : List Placed) → kept ≡ [] → Fits o → Turned o o calls 0 kept
 none_turned o calls kept none fits = record {
@@ -31,13 +31,13 @@ none_turned o calls kept none fits = record {
   goes_on = prefix_self o.seen;
   made = sym (append-nil o.own);
   few = omega arith;
-  told = sym (ap (λ (l : List Placed). mine o.number (placed o.seen) ++ l) none ∙ append-nil (mine o.number (placed o.seen)));
+  reported = sym (ap (λ (l : List Placed). mine o.number (placed o.seen) ++ l) none ∙ append-nil (mine o.number (placed o.seen)));
 }
 
 pub one_turned : (o k l : Known Call) (calls : List Call) (i : ℕ) (call : Call) (starved : Bool) (place : ℕ) (kept kept' : List Placed) (said : journal.Entry) (gives : List (Entry Call) → Type 0)
-    → MakesTurn k l (entry k.number call starved) place gives → Fits l → starved ≡ false → ((h : List (Entry Call)) → gives h → said ≡ told_of (entries_of h) o.number call) → o.first ≡ 0
+    → MakesTurn k l (entry k.number call starved) place gives → Fits l → starved ≡ false → ((h : List (Entry Call)) → gives h → said ≡ journal_entry_of (entries_of h) o.number call) → o.first ≡ 0
     → i < length calls → call ≡ get_or calls i call → kept' ≡ kept ++ record { place = place; entry = said } ∷ [] → Turned o k calls i kept → Turned o l calls (i + 1) kept'
-one_turned o k l calls i call starved place kept kept' said gives turn fits fed told first low at grown was =
+one_turned o k l calls i call starved place kept kept' said gives turn fits fed reported first low at grown was =
     let n : ℕ = o.number in
     let h : List (Entry Call) = turn.1.0 in
     let e : Entry Call = entry k.number call starved in
@@ -51,7 +51,7 @@ one_turned o k l calls i call starved place kept kept' said gives turn fits fed 
     let long : length l.seen ≡ length h + 1 = ap length turn.1.2 ∙ length-append h (e ∷ []) in
     let stands : place + 1 ≡ l.first + length l.seen = turn.3 in
     let here : length h ≡ place = omega arith in
-    let same : placed_at h e ≡ record { place = place; entry = said } = λ j. record { place = here j; entry = (ap (λ (m : ℕ). told_of (entries_of h) m call) number ∙ sym (told h turn.1.3)) j } in
+    let same : placed_at h e ≡ record { place = place; entry = said } = λ j. record { place = here j; entry = (ap (λ (m : ℕ). journal_entry_of (entries_of h) m call) number ∙ sym (reported h turn.1.3)) j } in
     let more : IsPrefix k.seen l.seen = prefix_trans k.seen h l.seen turn.1.1 (e ∷ [], sym turn.1.2) in
     let found : k.found ≤ l.found = turn.0.5 in
     let before : o.found ≤ k.found = was.keeps.5 in record {
@@ -62,7 +62,7 @@ one_turned o k l calls i call starved place kept kept' said gives turn fits fed 
           ∙ (append_assoc o.own (map (turn_of n) (take i calls)) (turn_of n call ∷ [])
           ∙ ap (λ (x : List (Entry Call)). o.own ++ x) (sym (map-append (turn_of n) (take i calls) (call ∷ [])) ∙ ap (map (turn_of n)) (ap (λ (x : Call). take i calls ++ x ∷ []) at ∙ sym (take_more calls i call low)))));
       few = ap length turn.2 ∙ (length-append k.own (e ∷ []) ∙ (let f = was.few in omega arith));
-      told = grew ∙ ((λ j. was.told j ++ same j ∷ []) ∙ (append_assoc (mine n (placed o.seen)) kept (record { place = place; entry = said } ∷ []) ∙ ap (λ (x : List Placed). mine n (placed o.seen) ++ x) (sym grown)));
+      reported = grew ∙ ((λ j. was.reported j ++ same j ∷ []) ∙ (append_assoc (mine n (placed o.seen)) kept (record { place = place; entry = said } ∷ []) ∙ ap (λ (x : List Placed). mine n (placed o.seen) ++ x) (sym grown)));
     }
 
 pub all_turned : (o k : Known Call) (calls : List Call) (i : ℕ) (kept : List Placed) → length calls ≤ i → i ≤ length calls → Turned o k calls i kept → Acts o k calls kept
@@ -71,7 +71,7 @@ all_turned o k calls i kept whole within was = record {
   goes_on = was.goes_on;
   made = inl (was.made ∙ ap (λ (x : List Call). o.own ++ map (turn_of o.number) x) (take_all i calls whole));
   few = let f = was.few in omega arith;
-  told = was.told;
+  reported = was.reported;
 }
 
 -- the seat found all tickets of the lock drawn
@@ -81,5 +81,5 @@ worn_turned o k l calls i kept within worn was = subst (λ (z : Known Call). Act
   goes_on = was.goes_on;
   made = inr (omega arith);
   few = (let f = was.few in omega arith);
-  told = was.told;
+  reported = was.reported;
 })

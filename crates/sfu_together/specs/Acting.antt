@@ -15,13 +15,13 @@ use Rattle.port_config.specs.declared.actors.turns.Placed.{Placed}
 use Rattle.port_config.specs.actors.Places.{mine}
 use Rattle.sfu_together.specs.declared.cast.Done.{Done}
 use Rattle.sfu_together.specs.declared.cast.Job.{Job}
-use Rattle.sfu_together.specs.History.{told_of}
+use Rattle.sfu_together.specs.History.{journal_entry_of}
 
 -- ---- stored turns
 
 -- the stored entry of a turn that follows these turns
 abbrev pub placed_at : List (Entry Call) → Entry Call → Placed
-placed_at past e = record { place = length past; entry = told_of (entries_of past) e.seat e.call }
+placed_at past e = record { place = length past; entry = journal_entry_of (entries_of past) e.seat e.call }
 
 -- the stored entries of turns that follow these turns
 abbrev pub placed_from : List (Entry Call) → List (Entry Call) → List Placed
@@ -44,7 +44,7 @@ pub record Acts (old new : Known Call) (calls : List Call) (kept : List Placed) 
   pub goes_on : IsPrefix old.seen new.seen
   pub made : (new.own ≡ old.own ++ map (turn_of old.number) calls) ⊎ (2 ^ 63 ≤ new.found)
   pub few : length new.own ≤ length old.own + length calls
-  pub told : mine old.number (placed new.seen) ≡ mine old.number (placed old.seen) ++ kept
+  pub reported : mine old.number (placed new.seen) ≡ mine old.number (placed old.seen) ++ kept
 
 -- ---- seats that are split off and later joined
 

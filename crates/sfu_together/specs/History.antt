@@ -32,13 +32,13 @@ pub record IsMadeBy (script : Actors) (history : List Entry) : Type 0 where
 -- ---- the journal
 
 -- the journal's entry of a call after this history
-abbrev pub told_of : List Entry → ℕ → Call → journal.Entry
-told_of past actor call = record { actor = actor; call = call; reply = answer_text (reply_of past call) }
+abbrev pub journal_entry_of : List Entry → ℕ → Call → journal.Entry
+journal_entry_of past actor call = record { actor = actor; call = call; reply = answer_text (reply_of past call) }
 
 -- the journal's entries of the calls after this history
 abbrev pub journal_from : List Entry → List Entry → List journal.Entry
 journal_from past [] = []
-journal_from past (e ∷ es) = told_of past e.seat e.call ∷ journal_from (past ++ e ∷ []) es
+journal_from past (e ∷ es) = journal_entry_of past e.seat e.call ∷ journal_from (past ++ e ∷ []) es
 
 -- the journal of a whole history
 abbrev pub journal_of : List Entry → List journal.Entry
@@ -48,5 +48,5 @@ journal_of history = journal_from [] history
 pub record IsJournal (script : Actors) (entries : List journal.Entry) : Type 0 where
   pub history : List Entry
   pub made : IsMadeBy script history
-  pub told : entries ≡ journal_of history
+  pub reported : entries ≡ journal_of history
   pub headline : Headline (accepted history)

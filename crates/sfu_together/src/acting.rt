@@ -5,14 +5,14 @@ ghost use Rattle.sfu_together.specs.Acting.{Acts};
 
 use crate::gate::Gate;
 use crate::played_room::PlayedRoom;
-use port_config::{Placed, put_last, told};
-use sfu_base::{Call, NoMemory, PacketBuf, Scratch, SeqList};
+use port_config::{Placed, journal_entry, put_last};
+use sfu_base::{Call, NoMemory, Scratch};
 use std::alloc::Global;
 use std::sync::Wait;
 use turn_lock::{Seat, Turns};
 
-/// Makes a seat's calls, at most 100,000, in order. Returns, for each turn, its index in the history and the journal's entry
-/// of its call. The gate is called before and after each turn. Once the lock has no ticket left, no further call is made.
+/// Makes a seat's calls in order. There may be at most 100,000 calls. For each turn, returns its index in the history and the journal entry of its
+/// call. The gate is called before and after each turn. Once the lock has no ticket left, no further call is made.
 pub fn act<W: Wait + Sync, G: Gate>(
     rt: &W,
     alloc: Global,
@@ -31,10 +31,7 @@ pub fn act<W: Wait + Sync, G: Gate>(
     ensures fits { Fits seat.new }
     ensures lock { seat.new.lock ≡ seat.old.lock }
 {
-    let mut scratch = Scratch {
-        packet: PacketBuf::new(),
-        names: SeqList::new(),
-    };
+    let mut scratch = Scratch::new();
     let mut kept = Vec::new(alloc);
     let mut line = 0;
     for call in calls {
@@ -45,7 +42,7 @@ pub fn act<W: Wait + Sync, G: Gate>(
         let Ok(turn) = turn else {
             return Ok(kept);
         };
-        let entry = told(alloc, actor, call, &turn.reply, &scratch)?;
+        let entry = journal_entry(alloc, actor, call, &turn.reply, &scratch)?;
         let place = turn.place;
         put_last(&mut kept, Placed { place, entry })?;
     }

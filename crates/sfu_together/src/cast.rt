@@ -20,7 +20,7 @@ use turn_lock::{Seat, Turns};
 /// The number of actors of a script.
 const ACTORS: u8 = 8;
 
-/// An actor, 1 to 8, with its seat.
+/// An actor and its seat. `actor` is the actor's number, 1 to 8.
 #[derive(Drop)]
 pub struct Job {
     pub seat: Seat<PlayedRoom>,
@@ -59,7 +59,7 @@ pub fn cast(
     Ok(jobs)
 }
 
-/// Makes an actor's calls by the seat of its job.
+/// Makes the calls of the job's actor with the job's seat.
 fn perform<W: Wait + Sync, G: Gate>(
     rt: &W,
     alloc: Global,
@@ -78,7 +78,7 @@ fn perform<W: Wait + Sync, G: Gate>(
     Ok(Done { seat, kept })
 }
 
-/// Returns the results of all actors, in order. Returns `NoMemory` if an actor ran out of memory, or if there is no memory for this list.
+/// Returns the results of all actors, in order. Returns `NoMemory` if an actor ran out of memory, or if there is no memory for the list of results.
 fn all_done(alloc: Global, ended: Vec<Result<Done, NoMemory>>) -> Result<Vec<Done>, NoMemory>
     ensures { IfOk result (λ dones. map Ok dones.items ≡ ended.items) }
 {

@@ -12,8 +12,8 @@ use std::alloc::Global;
 use std::sync::Wait;
 use std::thread::Threads;
 
-/// Reads a script of actors to its end, makes its calls, writes the journal, and returns the status. The
-/// actors make their calls at the same time. No part of the journal is written before the last call was made.
+/// Reads a script of actors to its end, makes its calls, writes the journal, and returns the status. The actors make their calls at the same time.
+/// The journal is written only after the last call was made.
 pub fn play_script<W: Threads + Wait + Sync, S: Source, K: Sink>(
     rt: &W,
     alloc: Global,

@@ -2,10 +2,11 @@
 
 /// A hook that is called before and after each actor's call, outside the lock. It may delay actors.
 pub trait Gate: Sync {
-    /// Called before the actor `actor`, 1 to 8, makes its call with the index `line`, counted from 0.
+    /// Called before an actor makes a call. `actor` is the actor's number, 1 to 8. `line` is the call's index among the actor's calls, counted from
+    /// 0.
     fn before(&self, actor: u8, line: u32);
 
-    /// Called after the actor has made that call.
+    /// Called after the actor has made the call.
     fn after(&self, actor: u8, line: u32);
 }
 

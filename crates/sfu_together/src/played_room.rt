@@ -9,7 +9,7 @@ use room_core::{KeepNone, Recorder, Room};
 use sfu_base::{Call, Reply, Scratch};
 use turn_lock::Held;
 
-/// A room behind a lock; the room's recorder stores nothing. A turn is one call on the room by the turn's seat. Between turns the room represents the
+/// A room behind a lock; the room's recorder stores nothing. In each turn, one seat makes one call on the room. Between turns the room represents the
 /// history of all turns.
 #[derive(Drop)]
 pub struct PlayedRoom {

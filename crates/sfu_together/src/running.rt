@@ -20,7 +20,7 @@ use turn_lock::Turns;
 /// Why a script of actors has no journal.
 #[derive(Clone, Copy, Debug, PartialEq, Eq, Error)]
 pub enum TogetherFault {
-    #[error("want of memory")]
+    #[error("out of memory")]
     NoMemory,
 }
 
@@ -65,7 +65,7 @@ fn make<W: Threads + Wait + Sync, G: Gate>(
     in_order(alloc, kept)
 }
 
-/// Makes a script's calls, at most 100,000, and returns the journal. The actors run at the same time, each on its own
+/// Makes the calls of a script and returns the journal. The script may have at most 100,000 calls. The actors run at the same time, each on its own
 /// thread. The gate is called before and after each call of an actor. On `NoMemory` the room and the entries are dropped.
 pub fn run_together<W: Threads + Wait + Sync, G: Gate>(
     rt: &W,

@@ -101,6 +101,11 @@ abbrev pub IsBound : BundleFault → Type 0
 IsBound (fault.Bound bundle) = ⊤
 IsBound other = ⊥
 
+-- the room's reply, or the refusal that names the bundle
+abbrev pub unless_bound : Option ℕ → Reply → Result Reply BundleFault
+unless_bound None reply = Ok reply
+unless_bound (Some bundle) reply = Err (fault.Bound bundle)
+
 -- the effect of the room's own call, unless a bundle forbids it
 abbrev pub Calls : {R : Type 0} → (R → Option (List Noted)) → (old new : Bundles R) → ℕ → Call → (bytes numbers : List ℕ) → Result Reply BundleFault → Type 0
 Calls noted old new seat call bytes numbers result = (h : Simulcast) → StandsFor noted old h

@@ -14,9 +14,9 @@ use std::alloc::Global;
 /// The maximum number of packets in a bundle's queue (own rule).
 const MOST_QUEUED: u16 = 512;
 
-/// One bundle. `number` is the bundle's number. `id` is the header extension id of the dependency descriptors on all legs. `legs` are the subscriber numbers
-/// of the legs. `switch` holds the chosen leg and the active leg. If `renumbers` is true, frame numbers continue over a change of leg, and `numbers` holds
-/// the state of this numbering. `ring` holds the outgoing packets.
+/// One bundle. `number` is the bundle's number. `id` is the header extension id of the dependency descriptors on all legs. `legs` are the subscriber
+/// numbers of the legs. `switch` holds the chosen leg and the active leg. If `renumbers` is true, the forwarded frame numbers continue over a change of
+/// leg. `numbers` holds the state from which these frame numbers are computed. `ring` holds the outgoing packets.
 #[derive(Drop)]
 pub struct Bundle {
     pub number: u32,
@@ -36,8 +36,8 @@ impl Bundle {
     ghost use Rattle.simulcast.specs.Pumping.{and_took, order};
     ghost use Rattle.simulcast.specs.Bundle.{ChoosesIn, DrawsIn, IsBundle, RedrawsIn, numbers_next, renumbered_if};
 
-    /// Returns a new bundle. Leg 1 is chosen, no leg is active, and no packet is queued. If `renumbers` is true, the bundle's frame numbers continue over a
-    /// change of leg.
+    /// Returns a new bundle. Leg 1 is chosen, no leg is active, and no packet is queued. If `renumbers` is true, the forwarded frame numbers continue over
+    /// a change of leg.
     pub fn new(
         alloc: Global,
         number: u32,
@@ -101,8 +101,8 @@ impl Bundle {
         self.ring.take(out)
     }
 
-    /// Writes a packet that was drawn before to `out` again. `seq` is the packet's sequence number. Returns `NotKept` if the packet isn't among the last
-    /// 1,024 packets drawn.
+    /// Writes an already drawn packet to `out` again. `seq` is the packet's sequence number. Returns `NotKept` if none of the last 1,024 drawn packets has
+    /// this number.
     pub fn redraw(&self, seq: u16, out: &mut PacketBuf) -> Result<(), Refusal>
         ensures redraws { RedrawsIn self.now seq out.new result }
         ensures unchanged { OnErr result (out.new ≡ out.old) }
@@ -110,7 +110,8 @@ impl Bundle {
         self.ring.resend(seq, out)
     }
 
-    /// Returns the numbers of the legs, counted from 1, in the order in which a pump takes packets from them. The pump skips each `None`.
+    /// Returns the order in which a pump takes packets from the legs. Each entry is the number of a leg, counted from 1, or `None`. The pump skips each
+    /// `None`.
     pub fn order(&self) -> [Option<u8>; 5]
         ensures { result ≡ order self.now.switch }
     {
@@ -142,7 +143,7 @@ impl Bundle {
         self.ring.queued()
     }
 
-    /// Returns whether the queue is full: at least 512 packets are queued.
+    /// Returns whether the queue is full, that is, whether at least 512 packets are queued.
     pub fn is_full(&self) -> bool
         ensures { result ≡ nat_le 512 (length self.now.ring.queued) }
     {
@@ -163,9 +164,10 @@ impl Bundle {
         }
     }
 
-    /// Handles a packet that was taken from a leg. Either queues the packet, with its new timestamp and frame number, or drops it.
+    /// Handles a packet that was taken from a leg. A packet that is to be forwarded is queued with its new timestamp and, if `renumbers` is true, with its
+    /// new frame number. Any other packet is dropped.
     pub fn take_in(&mut self, leg: u8, packet: &mut PacketBuf, newest: &mut NewestDescriptor)
-        requires room { length self.old.ring.queued < 512 }
+        requires capacity { length self.old.ring.queued < 512 }
         requires reads { first_fault packet.old ≡ None }
         requires fits { length packet.old ≤ 1536 }
         ensures taken { (m : Made) → IsBundle self.old m → IsBundle self.new (and_took leg packet.old m) }

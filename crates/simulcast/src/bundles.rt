@@ -16,9 +16,9 @@ use std::alloc::Global;
 /// The maximum number of bundles in a room (own rule).
 const MOST_BUNDLES: usize = 64;
 
-/// A room with bundles. The legs of a bundle are two or three subscribers of the room. The bundle merges the packets that are sent to its legs into one
-/// outgoing stream. `choose` selects the leg to forward. `pump` takes the packets that are queued for the legs. `draw` returns the next packet of the
-/// outgoing stream. `redraw` returns a packet that was drawn before. Bundles and legs are never removed.
+/// A room with bundles. The legs of a bundle are two or three subscribers of the room. The bundle merges the packets of its legs into one outgoing stream.
+/// `choose` selects the leg whose packets are to be forwarded. `pump` takes the packets that are queued for the legs. `draw` returns the next packet of the
+/// outgoing stream. `redraw` returns an already drawn packet again. Bundles and legs are never removed.
 #[derive(Drop)]
 pub struct Bundles<R: Recorder> {
     alloc: Global,
@@ -56,17 +56,19 @@ fn is_layered(kind: Result<Kind, Refusal>, id: u8) -> bool
 }
 
 impl<R: Recorder> Bundles<R> {
-    ghost use Rattle.std.specs.Prelude.{◌≡◌, ◌≤◌, ◌==◌, ℕ, [], List, IfErr, Ok, OnErr, fold, length, max, position};
+    ghost use Rattle.std.specs.Prelude.{◌≡◌, ◌≤◌, ◌==◌, ℕ, [], List, IfErr, IfSome, Ok, OnErr, fold, length, max, position};
     ghost use Rattle.std.specs.List.{find, list_all};
     ghost use Rattle.std.specs.Option.{option_map};
     ghost use Rattle.sfu_base.specs.declared.call.Call.TheVariants as call;
+    ghost use Rattle.sfu_base.specs.declared.call.Refusal.TheVariants.{Empty};
+    ghost use Rattle.sfu_base.specs.declared.call.Reply.TheVariants as reply;
     ghost use Rattle.simulcast.specs.Made.{has_leg, just_made, just_renumbered, made_with};
     ghost use Rattle.room_core.specs.History.{Entry, accepted};
     ghost use Rattle.room_core.specs.Serves.{DoesAsServe, Stands, recorder_may_refuse};
     ghost use Rattle.simulcast.specs.Bundles.{Bundled, BundlesHeadline, Calls, CallsWhole, CallStarvesBy, Chooses, Draws, IsBound, PleasesReceivers, PumpsOne, Redraws, Simulcast, StandsFor, StarvesBy};
-    ghost use Rattle.simulcast.specs.Bundles.{bound_leg, bundle_refusal, forbids_by, has_kind, is_live, may_starve, nothing_made};
+    ghost use Rattle.simulcast.specs.Bundles.{bound_leg, bundle_refusal, forbids_by, has_kind, is_live, may_starve, nothing_made, unless_bound};
 
-    /// Returns this room, without bundles. Allocates no memory.
+    /// Returns a value with this room and no bundles. Allocates no memory.
     pub fn new(alloc: Global, room: Room<R>) -> Bundles<R>
         ensures stands { (history : List Entry) → Stands R.noted room history → StandsFor R.noted result (nothing_made history) }
         ensures recorder { may_starve R.may_refuse result ≡ recorder_may_refuse R.may_refuse room }
@@ -79,7 +81,7 @@ impl<R: Recorder> Bundles<R> {
         }
     }
 
-    /// Returns the room, for read-only questions. Every call on the room goes through `call`, `take`, `packet` or `tick`.
+    /// Returns the room, for reading only. To call the room, use `call`, `take`, `packet` or `tick`.
     pub fn room(&self) -> &Room<R>
         ensures { result.now ≡ self.now.room }
     {
@@ -167,11 +169,11 @@ impl<R: Recorder> Bundles<R> {
         }
     }
 
-    /// Creates a bundle of two or three legs. The legs must be subscribers of layered tracks with the header extension id `id`. The bundle's packets have
-    /// this SSRC, and their sequence numbers start at `first`. Leg 1 is chosen. `NumberUsed`: `number` isn't above the highest bundle number, or is 0.
-    /// `TooMany`: there are 64 bundles already. `Room(NoSubscriber)`: a leg isn't a live subscriber. `Bound`: a leg belongs to bundle `bundle`, or is listed
-    /// twice. For a leg that is only listed twice, `bundle` is `number`. `WrongKind`: a leg's track isn't layered with this id. `NoMemory`: memory ran out.
-    /// This error is checked last.
+    /// Creates a bundle of two or three legs. The legs must be subscribers of layered tracks with the header extension id `id`. The outgoing packets of the
+    /// bundle have this SSRC, and sequence numbers from `first` on. Leg 1 is chosen. Returns `NumberUsed` if `number` is 0 or isn't above the highest
+    /// bundle number. Returns `TooMany` if there are already 64 bundles. Returns `Room(NoSubscriber)` if a leg isn't a live subscriber. Returns `Bound` if
+    /// a leg already belongs to a bundle, or is listed twice. `Bound` has the number of the leg's bundle or, if the leg belongs to none, `number`. Returns
+    /// `WrongKind` if a leg's track isn't layered, or has another header extension id. Returns `NoMemory` if memory runs out. `NoMemory` is checked last.
     pub fn bundle(
         &mut self,
         number: u32,
@@ -188,9 +190,10 @@ impl<R: Recorder> Bundles<R> {
         self.add(number, id, ssrc, first, legs, false)
     }
 
-    /// Creates a bundle as `bundle` does, with the same refusals. The frame numbers of this bundle continue over a change of leg. When a leg becomes active,
-    /// its key frame gets the frame number of the last forwarded frame plus 1, modulo 65,536. Later frames of the leg keep their distance to this key frame.
-    /// In each packet, renumbering changes only the two bytes of frame_number in the dependency descriptor (AV1 RTP payload format, Appendix A).
+    /// Creates a bundle as `bundle` does, with the same errors. The frame numbers of the outgoing packets continue over a change of leg. After a change of
+    /// leg, the new leg's first forwarded frame is a key frame. Its new frame number is that of the last forwarded frame plus 1, modulo 65,536. The frame
+    /// numbers of the leg's later frames keep their distance to that of this key frame. Renumbering a packet changes only the two bytes of frame_number in
+    /// the packet's dependency descriptor (AV1 RTP payload format, Appendix A).
     pub fn bundle_renumbered(
         &mut self,
         number: u32,
@@ -244,8 +247,8 @@ impl<R: Recorder> Bundles<R> {
         }
     }
 
-    /// Serves a call from this seat on the room, as `Room::serve` does. Returns `Bound` if the call is a `Take` or a `Leave`, and the subscriber is a leg of
-    /// bundle `bundle`. In this case nothing changes, including the scratch.
+    /// Serves a room call from this seat, as `Room::serve` does. For a `Take` or a `Leave` of a subscriber that is a leg, returns `Bound` with the number
+    /// of the leg's bundle. In that case nothing changes, not even the scratch.
     pub fn call(
         &mut self,
         seat: u32,
@@ -264,8 +267,8 @@ impl<R: Recorder> Bundles<R> {
         }
     }
 
-    /// Returns the number of the bundle that has this subscriber as a leg, or `None` if the subscriber isn't a leg. Of the calls on a leg, `call` refuses
-    /// exactly `Take` and `Leave` with `Bound`.
+    /// Returns the number of the bundle that has this subscriber as a leg, or `None` if the subscriber isn't a leg. If it is a leg, `call` returns `Bound`
+    /// for `Take` and `Leave`, and for no other call.
     #[inline(always)]
     pub fn owner(&self, subscriber: u32) -> Option<u32>
         ensures { result ≡ option_map (λ b. b.number) (find (λ b. has_leg subscriber b.legs.items) self.now.bundles.items) }
@@ -276,20 +279,33 @@ impl<R: Recorder> Bundles<R> {
         }
     }
 
-    /// Takes the oldest packet that is queued for a subscriber, as `Room::take` does. `call` with `Call::Take` does the same. The subscriber must not be a
-    /// leg, so check [`Bundles::owner`] first.
-    pub fn take(&mut self, seat: u32, subscriber: u32, scratch: &mut Scratch) -> Reply
-        requires free { option_map (λ b. b.number) (find (λ b. has_leg subscriber b.legs.items) self.old.bundles.items) ≡ None }
-        ensures calls { Calls R.noted self.old self.new seat (call.Take subscriber) scratch.new.packet scratch.new.names (Ok result) }
-        ensures whole { CallsWhole R.noted R.may_refuse self.old self.new seat (call.Take subscriber) scratch.old scratch.new (Ok result) }
-        ensures memory { CallStarvesBy R.may_refuse self.old (call.Take subscriber) (Ok result) }
+    /// Takes the oldest packet that is queued for a subscriber, as `Room::take` does, and sets `bound` to `None`. If the subscriber is a leg, sets `bound`
+    /// to the bundle's number, and returns `Refused(Empty)`. In that case nothing else changes, not even the scratch. `call` with `Call::Take` does the
+    /// same, except that it returns `Bound` for a leg.
+    pub fn take(
+        &mut self,
+        seat: u32,
+        subscriber: u32,
+        scratch: &mut Scratch,
+        bound: &mut Option<u32>,
+    ) -> Reply
+        ensures bound { bound.new ≡ option_map (λ b. b.number) (find (λ b. has_leg subscriber b.legs.items) self.old.bundles.items) }
+        ensures refused { IfSome bound.new (λ bundle. (self.new ≡ self.old) × (scratch.new ≡ scratch.old) × (result ≡ reply.Refused Empty)) }
+        ensures calls { Calls R.noted self.old self.new seat (call.Take subscriber) scratch.new.packet scratch.new.names (unless_bound bound.new result) }
+        ensures whole { CallsWhole R.noted R.may_refuse self.old self.new seat (call.Take subscriber) scratch.old scratch.new (unless_bound bound.new result) }
+        ensures memory { CallStarvesBy R.may_refuse self.old (call.Take subscriber) (unless_bound bound.new result) }
         ensures recorder { may_starve R.may_refuse self.new ≡ may_starve R.may_refuse self.old }
     {
+        if let Some(bundle) = self.owner(subscriber) {
+            *bound = Some(bundle);
+            return Reply::Refused(Refusal::Empty);
+        }
+        *bound = None;
         self.room.take(seat, subscriber, scratch)
     }
 
-    /// Adds a packet that arrives at `moment` to a track, as `Room::packet` does. `call` with `Call::Packet` does the same, since no bundle forbids this
-    /// call.
+    /// Passes a packet to a track, as `Room::packet` does. The packet arrives at `moment`. `call` with `Call::Packet` does the same, and never returns
+    /// `Bound`.
     pub fn packet(&mut self, seat: u32, track: u32, moment: u64, packet: &PacketBuf) -> Reply
         ensures calls { (bytes numbers : List ℕ)
             → Calls R.noted self.old self.new seat (call.Packet track moment packet.now) bytes numbers (Ok result) }
@@ -299,7 +315,7 @@ impl<R: Recorder> Bundles<R> {
         self.room.packet(seat, track, moment, packet)
     }
 
-    /// Advances a track's time to `moment`, as `Room::tick` does. `call` with `Call::Tick` does the same, since no bundle forbids this call.
+    /// Advances a track's time to `moment`, as `Room::tick` does. `call` with `Call::Tick` does the same, and never returns `Bound`.
     pub fn tick(&mut self, seat: u32, track: u32, moment: u64) -> Reply
         ensures calls { (bytes numbers : List ℕ) → Calls R.noted self.old self.new seat (call.Tick track moment) bytes numbers (Ok result) }
         ensures does { DoesAsServe R.noted R.may_refuse self.old.room self.new.room seat (call.Tick track moment) result }
@@ -308,9 +324,9 @@ impl<R: Recorder> Bundles<R> {
         self.room.tick(seat, track, moment)
     }
 
-    /// Takes the packets that are queued for the bundle's legs. The active leg comes first, then the chosen leg if it is another leg, then the other legs in
-    /// order. The pump takes from a leg until the leg's queue is empty, or until 512 packets of the bundle are queued. `NoBundle`: no bundle has this number.
-    /// `NoMemory`: a take ran out of memory. Earlier takes aren't undone.
+    /// Takes the packets that are queued for the bundle's legs. The active leg comes first. If another leg is chosen, the chosen leg comes next. The other
+    /// legs follow in the order of their numbers. The pump takes packets from a leg until the leg's queue is empty, or until the bundle's own queue has 512
+    /// packets. `NoBundle`: no bundle has this number. `NoMemory`: a take ran out of memory, but earlier takes aren't undone.
     pub fn pump(&mut self, number: u32, scratch: &mut Scratch) -> Result<Pumped, BundleFault>
         ensures pumps { PumpsOne R.noted self.old self.new number result }
         ensures unchanged { result ≡ Err BundleFault.NoBundle → scratch.new ≡ scratch.old }
@@ -349,8 +365,8 @@ impl<R: Recorder> Bundles<R> {
         }
     }
 
-    /// Writes a packet that was drawn from the bundle before to `out` again. `seq` is the packet's sequence number. `NoBundle`: no bundle has this number.
-    /// `Room(NotKept)`: none of the last 1,024 packets drawn has this sequence number. After an error, `out` is unchanged.
+    /// Writes an already drawn packet of the bundle to `out` again. `seq` is the packet's sequence number. `NoBundle`: no bundle has this number.
+    /// `Room(NotKept)`: none of the bundle's last 1,024 drawn packets has this sequence number. After an error, `out` is unchanged.
     pub fn redraw(&self, number: u32, seq: u16, out: &mut PacketBuf) -> Result<(), BundleFault>
         ensures redraws { Redraws R.noted self.now number seq out.new result }
         ensures unchanged { OnErr result (out.new ≡ out.old) }
@@ -364,9 +380,9 @@ impl<R: Recorder> Bundles<R> {
         }
     }
 
-    /// Chooses the leg with this number, counted from 1. If the leg isn't active, requests a key frame of the leg's track, as a `plead` by seat 0 does.
-    /// `NoBundle`: no bundle has this number. `NoLeg`: the bundle has no such leg. `NoMemory`: the key frame request ran out of memory, but the leg is
-    /// chosen.
+    /// Chooses the leg with this number, counted from 1. If the leg isn't active, this call also requests a key frame from the leg's track, as a `plead` by
+    /// seat 0 does. `NoBundle`: no bundle has this number. `NoLeg`: the bundle has no such leg. `NoMemory`: the key frame request ran out of memory, but
+    /// the leg is chosen.
     pub fn choose(&mut self, number: u32, leg: u8, scratch: &mut Scratch) -> Result<(), BundleFault>
         ensures chooses { Chooses R.noted self.old self.new number leg result }
         ensures memory { StarvesBy R.may_refuse self.old result }

@@ -11,7 +11,8 @@ use dd_descriptor::NewestDescriptor;
 use room_core::{Recorder, Room};
 use sfu_base::{NoMemory, Scratch};
 
-/// One more than the 512 packets of a full queue. After 513 takes, a subscriber's queue is empty.
+/// The maximum number of takes from one leg in a pump. It is 1 more than the 512 packets of a full queue. The 513th take always finds the subscriber's
+/// queue empty.
 const MOST_TAKES: u32 = 513;
 
 // Takes packets from a leg until the leg's queue is empty, or until the bundle has 512 packets queued. Returns the number of packets taken.
@@ -94,8 +95,8 @@ fn drain_legs<R: Recorder>(
     Ok(taken)
 }
 
-/// Takes the packets that are queued for the legs of a bundle. The active leg comes first, then the chosen leg if it is another leg, then the other legs in
-/// order. For each leg, the takes stop when the leg's queue is empty, or when 512 packets of the bundle are queued.
+/// Takes the packets that are queued for the legs of a bundle. The active leg comes first. If another leg is chosen, the chosen leg comes next. The other
+/// legs follow in the order of their numbers. Takes packets from each leg until the leg's queue is empty, or until the bundle's own queue has 512 packets.
 pub fn pump<R: Recorder>(
     room: &mut Room<R>,
     bundle: &mut Bundle,

@@ -1,4 +1,4 @@
-//! Simulcast: merges the packets of two or three subscribers of a room into one outgoing stream.
+//! Simulcast. A bundle merges the packets of two or three subscribers of a room into one outgoing stream.
 #![tactic(auto)]
 
 mod bundle;

@@ -2,7 +2,7 @@
 ghost use Rattle.std.specs.Prelude.{◌≡◌};
 ghost use Rattle.simulcast.specs.Pumping.{unless};
 
-/// Returns `None` if `is_taken` is true: the leg already comes earlier in the order. Otherwise returns this leg.
+/// Returns `leg`, or `None` if `is_taken` is true. `is_taken` says whether the leg already has an earlier place in the order.
 pub fn unless(is_taken: bool, leg: u8) -> Option<u8>
     ensures { result ≡ unless is_taken leg }
 {

@@ -22,7 +22,7 @@ pub fn is_packet(answer: &Reply) -> bool
     matches!(answer, Reply::Packet)
 }
 
-/// Returns a packet's marker bit, the highest bit of its second byte (RFC 3550, section 5.1).
+/// Returns whether a packet's marker bit is set. This bit is the highest bit of the packet's second byte (RFC 3550, section 5.1).
 #[tactic(auto, using(rtp_packet::proofs::Faultless::header_there))]
 pub fn marker(packet: &[u8]) -> bool
     requires { first_fault packet.now ≡ None }

@@ -3,7 +3,7 @@
 
 use crate::{BundleFault, Bundles, Pumped};
 use room_core::{KeepNone, Room};
-use sfu_base::{Call, Kind, PacketBuf, Refusal, Reply, Scratch, SeqList, Wish};
+use sfu_base::{Call, Kind, PacketBuf, Refusal, Reply, Scratch, Wish};
 use std::process::Abort;
 use std::test::Fail;
 
@@ -72,10 +72,7 @@ fn packet(track: u32, seq: u16, rest: &[u8]) -> PacketBuf {
 }
 
 fn scratch() -> Scratch {
-    Scratch {
-        packet: PacketBuf::new(),
-        names: SeqList::new(),
-    }
+    Scratch::new()
 }
 
 fn call(
@@ -122,9 +119,12 @@ fn room_step(rt: &impl Abort, bundles: &mut Bundles<KeepNone>, step: Step) {
         }
         Step::Take(subscriber, wanted) => {
             call(rt, bundles, Call::Take { subscriber }, wanted);
-            let took = match bundles.owner(subscriber) {
+            let mut bound = None;
+            let reply = bundles.take(0, subscriber, &mut scratch(), &mut bound);
+            assert_eq!(rt; bound, bundles.owner(subscriber));
+            let took = match bound {
                 Some(bundle) => Err(BundleFault::Bound { bundle }),
-                None => Ok(bundles.take(0, subscriber, &mut scratch())),
+                None => Ok(reply),
             };
             assert_eq!(rt; took, wanted);
         }

@@ -1,6 +1,6 @@
 #![tactic(auto)]
-//! Tests of the small crates between the formats and the room: numbers, slots, rings, frames, references, chains and
-//! causes. Also tests the maker of streams. The tests aren't in those crates, since a crate with tests is proved twice.
+//! Tests of the small crates between the formats and the room: numbers, slots, rings, frames, references, chains and causes. Also tests the crate
+//! `stream_maker`. The tests aren't in those crates, since a crate with tests is proved twice.
 
 #[cfg(test)]
 mod cause_book_tests;

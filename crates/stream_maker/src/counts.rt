@@ -6,18 +6,18 @@ ghost use Rattle.stream_maker.specs.Left.{counts_after};
 use crate::fate::Fate;
 use crate::place::Place;
 
-/// Counts of the part of a stream that was made so far. A packet counts as made when its turn comes, whether it is lost or not.
+/// Counts for the part of a stream that was made so far. A packet counts as made when its turn comes, whether it is lost or not.
 #[derive(Clone, Copy, Debug, PartialEq, Eq)]
 pub struct Counts {
-    /// The frames of which at least one packet was made.
+    /// How many frames have at least one packet that was made.
     pub frames: u32,
-    /// The packets that were made.
+    /// How many packets were made.
     pub packets: u32,
-    /// The packets that aren't sent.
+    /// How many packets are lost: they aren't sent.
     pub lost: u32,
-    /// The packets that are sent twice.
+    /// How many packets are sent twice.
     pub repeated: u32,
-    /// The packets that are held back until the next packet that isn't lost was sent, or until the stream ends.
+    /// How many packets are held back. Each is sent after the next packet that isn't lost, or at the end of the stream.
     pub swapped: u32,
 }
 

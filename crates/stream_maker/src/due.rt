@@ -12,9 +12,9 @@ use crate::place::Place;
 pub(crate) struct Due {
     /// The packet whose turn it is.
     pub(crate) place: Place,
-    /// The number of times that it is still to be sent.
+    /// How many more times this packet is to be sent.
     pub(crate) copies: u8,
-    /// The packet that is sent after it.
+    /// The packet that is sent after `place`.
     pub(crate) behind: Option<Place>,
     /// Whether a tick follows, at the moment of the packet's unit.
     pub(crate) ticks: bool,
@@ -23,10 +23,10 @@ pub(crate) struct Due {
 /// What a packet's turn sends, and which packet is held back after the turn.
 #[derive(Clone, Copy, Debug)]
 pub(crate) struct Turn {
-    /// The number of times that the packet is sent.
+    /// How many times the packet itself is sent in its turn.
     pub(crate) copies: u8,
-    /// The packet that is sent after it: the packet that was held back before. At the
-    /// end of the stream it may also be the packet that would otherwise stay held back.
+    /// The packet that is sent last in the turn: usually the packet that was held back before the turn. In the stream's last turn, it may also be the
+    /// packet that would otherwise stay held back.
     pub(crate) behind: Option<Place>,
     pub(crate) held: Option<Place>,
 }

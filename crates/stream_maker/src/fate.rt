@@ -6,7 +6,7 @@ ghost use Rattle.stream_maker.specs.Fates.{fate_of, word_of, after_word};
 use rand_core::utils::NextWord;
 use rand_pcg::Lcg64Xsh32;
 
-/// What happens to a packet, according to its word from the generator.
+/// What happens to a packet. For each packet, a word from the random generator decides this.
 #[derive(Clone, Copy, Debug, PartialEq, Eq)]
 pub(crate) enum Fate {
     Lost,

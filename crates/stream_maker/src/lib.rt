@@ -1,5 +1,5 @@
-//! Makes a layered AV1 stream over RTP from a seed. A random generator decides which packets are lost, repeated and swapped; the same
-//! seed makes the same stream. The stream simulates a publisher behind a bad network. Only the texts about a stream allocate memory.
+//! Makes a layered AV1 stream over RTP from a seed. A random generator decides which packets are lost, repeated and swapped; the same seed makes the
+//! same stream. The stream simulates a publisher behind a bad network. Only the functions that return texts about a stream allocate memory.
 #![tactic(auto)]
 
 mod counts;

@@ -13,7 +13,7 @@ use rand_pcg::Lcg64Xsh32;
 use sfu_base::PacketBuf;
 use std::marker::Model;
 
-/// A layered stream that is made call by call. Clauses see the events that are still to come, and the counts of what was made.
+/// A layered stream that is made call by call. Contracts see the events that are still to come, and the counts of what was made.
 #[derive(Debug, Drop)]
 pub struct Maker {
     state: State,
@@ -32,9 +32,9 @@ impl Model for Maker {
 }
 
 impl Maker {
-    /// Returns the stream of `frames` frames for the seed `start`. About `loss` percent of its packets
-    /// are lost. Of the others, about `loss` percent are sent twice. Of the rest, about `loss` percent
-    /// are held back and sent after the next packet, unless another packet is already held back.
+    /// Returns the stream of `frames` frames for the seed `start`. About `loss` percent of its packets are lost. Of the others, about `loss` percent
+    /// are sent twice. Of the rest, about `loss` percent are held back, unless another packet is already held back. A held packet is sent after the
+    /// next packet that isn't lost, or at the end of the stream.
     pub fn new(frames: u32, start: u64, loss: u8) -> Maker
         requires some_frames { 1 ≤ frames }
         requires few_frames { frames ≤ 1000000 }
@@ -64,7 +64,7 @@ impl Maker {
         self.state.give(out)
     }
 
-    /// Returns the counts of the packets made so far, up to the packet in whose turn the last event came.
+    /// Returns the counts of the packets made so far. The newest of these packets is the one in whose turn the last event came.
     pub fn counts(&self) -> Counts
         ensures { result ≡ self.now.counts }
     {

@@ -22,7 +22,7 @@ pub(crate) struct State {
     pub(crate) frames: u32,
     pub(crate) loss: u8,
     pub(crate) generator: Lcg64Xsh32,
-    /// The packet that is made next. Once all packets are made, it is the first packet of frame number `frames`, which isn't made.
+    /// The packet that is made next. Once all packets are made, this is the first packet of frame number `frames`. That frame is never made.
     pub(crate) next: Place,
     /// The packet that is held back.
     pub(crate) held: Option<Place>,

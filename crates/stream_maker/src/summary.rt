@@ -7,7 +7,7 @@ ghost use Rattle.stream_maker.specs.Summary.{counts_text, made_text};
 use crate::counts::Counts;
 use std::alloc::{AllocError, Global};
 
-/// Returns two lines of text that say what was made of a stream. Returns `AllocError` if memory runs out.
+/// Returns the counts of a stream as two lines of text. Returns `AllocError` if memory runs out.
 pub fn made_text(alloc: Global, counts: Counts) -> Result<String, AllocError>
     ensures { IfOk result (λ text. string_bytes text ≡ made_text counts) }
 {

@@ -32,8 +32,8 @@ same_complaint (Complaining c) Waiting h = absurd h
 same_complaint (Complaining c) (Receiving r) h = absurd h
 same_complaint (Complaining c) (Complaining d) h = ap (λ (x : Complaint). Some x) h
 
-pub complaint_told : (now : Seen) (history : List (List ℕ)) → StandsFor now history → complaint_of now.receiver ≡ complaint_over now.id history
-complaint_told now history stands = same_complaint now.receiver _ stands.receiver
+pub complaint_reported : (now : Seen) (history : List (List ℕ)) → StandsFor now history → complaint_of now.receiver ≡ complaint_over now.id history
+complaint_reported now history stands = same_complaint now.receiver _ stands.receiver
 
 module _ (format : Format TemplateStructure) where
   after_both : (m : Receiver TemplateStructure) (came more : List (Option Packet)) → receive_all format m (came ++ more) ≡ receive_all format (receive_all format m came) more

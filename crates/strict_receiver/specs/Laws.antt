@@ -12,8 +12,8 @@ use Rattle.strict_receiver.specs.Receivers.{Seen, StandsFor, complaint_over}
 -- ---- what was fed
 
 -- a receiver returns the complaint about the packets that it represents
-abbrev pub TellsItsComplaint : Type 0
-TellsItsComplaint = (now : Seen) (history : List (List ℕ)) → StandsFor now history → complaint_of now.receiver ≡ complaint_over now.id history
+abbrev pub ReturnsItsComplaint : Type 0
+ReturnsItsComplaint = (now : Seen) (history : List (List ℕ)) → StandsFor now history → complaint_of now.receiver ≡ complaint_over now.id history
 
 -- a complaint stays, whatever packets follow
 abbrev pub ComplaintStays : Type 0

@@ -12,7 +12,7 @@ pub struct FrameStart {
     pub key: bool,
     /// How many frames the frame refers to, at most 16.
     pub ref_count: u8,
-    /// The distance in frame numbers back to each referenced frame, 1 to 4,096 (frame_fdiff). Only the first `ref_count` entries are used.
+    /// For each referenced frame, the distance back to it in frame numbers, 1 to 4,096 (frame_fdiff). Only the first `ref_count` entries are used.
     pub refs: [u16; 16],
     ghost few: { ref_count ≤ 16 },
     ghost near: { are_near ref_count refs ≡ true },
@@ -24,6 +24,7 @@ pub struct OpenFrame {
     pub start: FrameStart,
     /// How many packets the frame has so far, at most 512.
     pub packets: u16,
-    /// Y of the last packet: whether it left an element unfinished, which the next packet must continue (RTP Payload Format For AV1, section 4.4).
+    /// Y of the last packet: whether its last element is unfinished. If so, the next packet must continue this element (RTP Payload Format For AV1,
+    /// section 4.4).
     pub carries: bool,
 }

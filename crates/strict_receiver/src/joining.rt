@@ -13,7 +13,7 @@ use packet_format::begins_epoch;
 /// The largest number of packets of a frame.
 const MOST_PACKETS: u16 = 512;
 
-/// Whether a packet with this descriptor can begin a frame. Such a packet has the start bit, and continues no element.
+/// Whether a packet with this descriptor can begin a frame. In such a packet the start bit is set. The packet continues no element.
 pub fn begins(first: &Descriptor, continues: bool) -> bool
     ensures { result ≡ (first.now.start && not continues) }
 {
@@ -46,8 +46,8 @@ fn start_of(first: &Descriptor) -> FrameStart
     }
 }
 
-/// Whether a packet with this descriptor continues the frame. Such a packet has no start bit, has the frame's number, and continues an element
-/// exactly if one was left unfinished. A frame has at most 512 packets.
+/// Whether a packet with this descriptor continues the frame. Such a packet has the frame's number, and its start bit isn't set. The packet continues
+/// an element exactly if the previous packet left one unfinished. A frame has at most 512 packets.
 pub fn goes_on(frame: &OpenFrame, descriptor: &Descriptor, continues: bool) -> bool
     ensures follows { (force : Option TemplateStructure) → result ≡ follows (frame_said frame.now) (said_by force descriptor.now) continues }
     ensures few { result ≡ true → frame.now.packets < 512 }

@@ -13,5 +13,5 @@ mod state;
 mod tests;
 
 pub use forwarding_model::Complaint;
-pub use laws::{bytes_are_judged_as_their_packets, receivers_tell_their_complaint};
+pub use laws::{bytes_are_judged_as_their_packets, receivers_return_their_complaint};
 pub use receiver::Receiver;

@@ -13,8 +13,8 @@ use ref_window::RefWindow;
 use std::marker::Model;
 use wrap_number::above;
 
-/// The newest frame's number, and the received numbers up to it. Only two things matter: the newest number modulo 65,536, and how far below it
-/// the other numbers are. So all numbers are lowered by the same multiple of 65,536 before they get too high. Contracts see a `Received` of
+/// The newest frame's number, and which frame numbers up to it were received. Only two things matter: the newest number modulo 65,536, and how far
+/// below it the other numbers are. So all numbers are lowered by the same multiple of 65,536 before they get too high. Contracts see a `Received` of
 /// `forwarding_model`.
 #[derive(Debug, Drop)]
 pub struct ReceivedFrames {
@@ -53,8 +53,8 @@ impl ReceivedFrames {
         }
     }
 
-    /// Judges a complete frame by its first descriptor. If all frames that it refers to were received, counts the frame itself as received, and
-    /// returns `None`. Otherwise returns the distance of the first reference to a frame that wasn't received.
+    /// Judges a complete frame by its first descriptor. If all frames to which the frame refers were received, counts the frame itself as received
+    /// and returns `None`. Otherwise returns the distance to the first referenced frame that wasn't received.
     pub fn judge(&mut self, start: &FrameStart) -> Option<u16>
         ensures { (received : Received) → AreKeptOf self.old received
             → Judges self.new result (judge received (header_said start.now)) }

@@ -15,8 +15,8 @@ use std::alloc::Global;
 use std::marker::Model;
 
 /// A strict receiver of the packets of one layered track (own rule). The receiver knows only the packets and the header extension id of their
-/// dependency descriptors. Contracts see this id, the counts of packets and frames, and the receiver of `forwarding_model` with those received
-/// numbers that are kept.
+/// dependency descriptors. Contracts see this id, the counts of packets and frames, and a receiver of `forwarding_model`. Of the received frame
+/// numbers, that receiver has only those that are kept.
 #[derive(Drop)]
 pub struct Receiver {
     // On the heap, because receivers are moved and a state is large: it has two template structures.
@@ -58,7 +58,7 @@ impl Receiver {
         ensures stands { (history : List (List ℕ)) → StandsFor self.old history → StandsFor self.new (history ++ packet.now ∷ []) }
         ensures answer { (history : List (List ℕ)) → StandsFor self.old history
             → complaint_in result ≡ complaint_over self.old.id (history ++ packet.now ∷ []) }
-        ensures told { complaint_in result ≡ complaint_of self.new.receiver }
+        ensures reported { complaint_in result ≡ complaint_of self.new.receiver }
         ensures again { (complaint : Complaint) → complaint_of self.old.receiver ≡ Some complaint → result ≡ Err complaint }
         ensures unchanged { (complaint : Complaint) → complaint_of self.old.receiver ≡ Some complaint → self.new ≡ self.old }
         ensures packets { self.new.packets ≡ (if is_ok result then min (self.old.packets + 1) greatest_count else self.old.packets) }
@@ -72,7 +72,7 @@ impl Receiver {
         Ok(())
     }
 
-    /// How many frames were accepted. A frame is accepted with its last packet. The count stops at 2^64 - 1.
+    /// How many frames were accepted. A frame is accepted when its last packet is accepted. The count stops at 2^64 - 1.
     pub fn frames(&self) -> u64
         ensures { result ≡ self.now.frames }
     {
@@ -93,8 +93,7 @@ impl Receiver {
         self.state.has_ended_a_frame()
     }
 
-    /// The template structure in force, if all packets so far were accepted, or `None` before the first packet. After a complaint, the result
-    /// is unspecified.
+    /// Returns the template structure in force, or `None` before the first packet. After a complaint, the result is unspecified.
     pub fn structure(&self) -> Option<&Structure>
         ensures { (r : Reception TemplateStructure) → self.now.receiver ≡ Receiving r → option_copied result ≡ r.structure }
     {

@@ -5,7 +5,7 @@ use Rattle.std.specs.List.{AllByRecursion, list_any}
 use Rattle.std.specs.declared.option.Option.TheVariants.{None, Some}
 use Rattle.sfu_base.specs.declared.frame.FrameMeaning.{FrameMeaning}
 use Rattle.forwarding_model.specs.forwarding.Outgoing.{is_top_layer}
-use Rattle.forwarding_model.specs.forwarding.Selection.{candidate_verdict, has_room, is_present_in, opened_or, opening, reference_verdict, target_of, target_verdict}
+use Rattle.forwarding_model.specs.forwarding.Selection.{candidate_verdict, has_capacity, is_present_in, opened_or, opening, reference_verdict, target_of, target_verdict}
 use Rattle.forwarding_model.specs.forwarding.Standing.{Standing, after_frame, candidate_at, has_passed, is_key, kept_target_at, key_passed, passed_at, passes_at, target_at, verdict_at}
 use Rattle.ref_window.specs.Numbers.{held_of}
 use Rattle.chain_state.specs.Links.{numbers_of}
@@ -57,7 +57,7 @@ is_opening_at s f = is_something (opening (has_passed s f) (key_passed s f) s.wi
 -- Whether the frame passes, and the verdict on it. Both follow from its first
 -- reference that wasn't passed, the target that it opens, and the target that is left.
 abbrev pub passes_by : FrameMeaning → ℕ → ℕ → CurrentTarget → Option ℕ → Option ℕ → Bool
-passes_by f packets queued kept missing opened = is_present_in f (opened_or f opened kept) && (is_nothing missing && has_room queued packets)
+passes_by f packets queued kept missing opened = is_present_in f (opened_or f opened kept) && (is_nothing missing && has_capacity queued packets)
 
 abbrev pub verdict_by : FrameMeaning → ℕ → ℕ → Wish → CurrentTarget → Option ℕ → Option ℕ → Verdict
 verdict_by f packets queued wish kept missing opened =
@@ -76,7 +76,7 @@ pub record IsJudged (s : Standing) (f : FrameMeaning) (packets queued : ℕ) (ke
 pub record IsAdmitted (old new : Seen) (offer : Offered) (queued : ℕ) (result : Verdict) : Type 0 where
   pub verdict : (s : Standing) → StandsFor old s → IsAboveAll offer.frame s → s.queued ≡ queued → result ≡ verdict_at s offer.frame offer.packets
   pub stands : (s : Standing) → StandsFor old s → IsAboveAll offer.frame s → s.queued ≡ queued → StandsFor new (after_frame s offer.frame offer.packets)
-  pub room : result ≡ Passed → queued + offer.packets ≤ 512
+  pub capacity : result ≡ Passed → queued + offer.packets ≤ 512
   pub top : (s : Standing) → StandsFor old s → IsAboveAll offer.frame s → s.queued ≡ queued → result ≡ Passed
       → new.top ≡ is_top_layer offer.frame (candidate_at s offer.frame)
   pub opened : (s : Standing) → StandsFor old s → IsAboveAll offer.frame s → s.queued ≡ queued → result ≡ Passed → new.opened ≡ is_opening_at s offer.frame

@@ -4,7 +4,7 @@ ghost use Rattle.std.specs.Int.{bit_at};
 ghost use Rattle.std.specs.List.{list_all};
 ghost use Rattle.sfu_base.specs.Frame.{IsValid};
 ghost use Rattle.forwarding_model.specs.forwarding.Outgoing.{is_top_layer};
-ghost use Rattle.forwarding_model.specs.forwarding.Selection.{can_open, has_room, is_present_in, is_upgrade, missing_reference, opened_or};
+ghost use Rattle.forwarding_model.specs.forwarding.Selection.{can_open, has_capacity, is_present_in, is_upgrade, missing_reference, opened_or};
 ghost use Rattle.forwarding_model.specs.forwarding.Targets.{aim, best, is_present, references};
 ghost use Rattle.ref_window.specs.Numbers.{AreBelow, has_below};
 ghost use Rattle.target_selector.specs.Masks.{mask_for, targets_where};
@@ -12,9 +12,9 @@ ghost use Rattle.target_selector.specs.Offers.{AreNeeded, IsBegun, begins, begin
 ghost use Rattle.target_selector.specs.Targets.{IsBelow, IsIndexBelow};
 
 use crate::frame_targets::{
-    best_of, is_allowed, is_better, is_within, layers, mask_within, with_target,
+    best_of, is_allowed, is_better, is_within, layers_in, mask_within, with_target,
 };
-use crate::withheld::has_room;
+use crate::withheld::has_capacity;
 use forwarding_model::CurrentTarget;
 use sfu_base::{Dti, FrameMeaning, Wish};
 use std::marker::Model;
@@ -35,8 +35,9 @@ pub struct Begun {
     pub top: Option<u8>,
 }
 
-/// A frame, its number of packets, and what is the same for all subscribers of its track: the distances of its references, the targets that
-/// a decoder can begin at it, and the best of these. An offer is made once per frame. Clauses see the frame and the number of packets.
+/// A frame and its number of packets, with values that are the same for all subscribers of its track. These values are the distances of the frame's
+/// references, the targets that a decoder can begin to decode at the frame, and the best of these targets. An offer is made once per frame. Contracts
+/// see the frame and the number of packets.
 #[derive(Debug, Drop)]
 pub struct FrameOffer<'a> {
     frame: &'a FrameMeaning,
@@ -92,8 +93,9 @@ impl<'a> FrameOffer<'a> {
         self.packets
     }
 
-    /// Returns whether all references of the frame are in the mask `passed` of passed frames. Bit d of the mask, for d from 1 to 63,
-    /// stands for the frame whose number is d below this one's. Bit 0 stands for no frame; it has to be 1 if a reference is further below.
+    /// Returns whether all references of the frame are in `passed`, a mask of the frames passed to a subscriber. Bit d of the mask, for d from 1 to
+    /// 63, stands for the frame whose number is d below this frame's number. Bit 0 stands for no frame. If a reference is 64 or more below, the
+    /// result is true only if bit 0 is 1.
     pub fn refers_within(&self, passed: u64) -> bool
         ensures valid { IsValid self.now.frame }
         ensures exact { result ≡ list_all (λ distance. bit_at passed (needed_bit distance) == 1) (references self.now.frame) }
@@ -103,8 +105,9 @@ impl<'a> FrameOffer<'a> {
         self.needed & passed == self.needed
     }
 
-    /// Returns the best target that the frame opens for `wish` in place of the current target, or `None` if it opens none. `complete`
-    /// says whether all references of the frame were passed. `key_passed` says whether a key frame of its epoch was passed.
+    /// Returns the target that the frame opens for `wish` in place of the current target: the best one that it can open. Returns `None` if it can
+    /// open none. `complete` says whether all references of the frame were passed to the subscriber. `key_passed` says whether a key frame of the
+    /// frame's epoch was passed.
     pub fn opening(
         &self,
         wish: Wish,
@@ -141,7 +144,7 @@ impl<'a> FrameOffer<'a> {
         // Reading the fields lets the checker know their ranges.
         let Wish { .. } = wish;
         let pairs = &self.frame.pairs;
-        if is_within(wish, layers(pairs, top)) {
+        if is_within(wish, layers_in(pairs, top)) {
             Some(top)
         } else {
             best_of(wish, self.begun.targets, self.frame.target_count, pairs)
@@ -165,7 +168,7 @@ impl<'a> FrameOffer<'a> {
         }
     }
 
-    /// Returns the best target of the frame that the wish allows, or `None` if it allows none.
+    /// Of the frame's targets that the wish allows, returns the best one. Returns `None` if the wish allows none.
     pub fn aim(&self, wish: Wish) -> Option<u8>
         ensures { result ≡ aim wish self.now.frame }
     {
@@ -180,8 +183,8 @@ impl<'a> FrameOffer<'a> {
         target < self.frame.target_count && self.frame.dtis[usize::from(target)] != Dti::NotPresent
     }
 
-    /// Returns whether the frame passes: all its references were passed, its packets fit in the queue,
-    /// and it belongs to the target that it opens. If it opens none, it has to belong to the open target.
+    /// Returns whether the frame passes. All its references must have been passed, and its packets must fit in the queue. The frame must also belong
+    /// to `opening`, the target that it opens. If it opens none, it must belong to the open target.
     pub fn passes(
         &self,
         opening: Option<u8>,
@@ -189,9 +192,9 @@ impl<'a> FrameOffer<'a> {
         complete: bool,
         queued: u16,
     ) -> bool
-        ensures { result ≡ (is_present_in self.now.frame (opened_or self.now.frame opening current.now) && (complete && has_room queued self.now.packets)) }
+        ensures { result ≡ (is_present_in self.now.frame (opened_or self.now.frame opening current.now) && (complete && has_capacity queued self.now.packets)) }
     {
-        complete && self.is_present_in(opening, *current) && has_room(self.packets, queued)
+        complete && self.is_present_in(opening, *current) && has_capacity(self.packets, queued)
     }
 
     fn is_present_in(&self, opening: Option<u8>, current: CurrentTarget) -> bool
@@ -210,7 +213,7 @@ impl<'a> FrameOffer<'a> {
         ensures { result ≡ is_top_layer self.now.frame current }
     {
         match current {
-            CurrentTarget::Open { index, opened: _ } => match layers(&self.frame.pairs, index) {
+            CurrentTarget::Open { index, opened: _ } => match layers_in(&self.frame.pairs, index) {
                 None => false,
                 Some(pair) => self.frame.spatial == pair.spatial,
             },
@@ -218,8 +221,8 @@ impl<'a> FrameOffer<'a> {
         }
     }
 
-    /// Returns the mask of the frame's targets that a subscriber of `target` receives: those in the frame's mask whose layers
-    /// are at most those of `target`. Bit i stands for target i (bit 0 is the lowest). Without a target the mask is 0.
+    /// Returns the mask of decode targets that a subscriber of `target` receives with the frame. It has the targets of the frame's mask whose layers
+    /// are at most those of `target`. Bit i stands for target i, and bit 0 is the lowest. Without a target the mask is 0.
     #[inline(never)]
     pub fn mask_for(&self, target: Option<u8>) -> u32
         requires { IsBelow 32 target }
@@ -229,7 +232,7 @@ impl<'a> FrameOffer<'a> {
             return 0;
         };
         let frame = self.frame;
-        match layers(&frame.pairs, target) {
+        match layers_in(&frame.pairs, target) {
             Some(most) => mask_within(most, frame.mask, frame.target_count, &frame.pairs),
             None => 0,
         }

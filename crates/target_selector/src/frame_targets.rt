@@ -8,7 +8,8 @@ ghost use Rattle.target_selector.specs.Targets.{IsBelow, IsRanked, allows, best_
 
 use sfu_base::{FrameMeaning, Wish};
 
-/// The highest layers of each decode target, or `None` for a target in which no template of the structure is present.
+/// The layers of each decode target: its highest spatial id and its highest temporal id. `None` for a target in which no template of the structure is
+/// present.
 pub type Pairs = [Option<Wish>; 32];
 
 /// A frame's decode targets: their number, the mask of the active ones, and the layers of each.
@@ -27,7 +28,7 @@ pub const NO_TARGETS: FrameTargets = FrameTargets {
 };
 
 impl FrameTargets {
-    /// Replaces the targets by those of the frame.
+    /// Replaces the targets with those of the frame.
     pub fn set(&mut self, frame: &FrameMeaning)
         ensures { self.new ≡ targets_of frame.now }
     {
@@ -37,14 +38,15 @@ impl FrameTargets {
     }
 }
 
-/// The best target so far, if there is one. A target that comes later is better if its height is at least `least`.
+/// The best target so far, if there is one. A target with a greater index is better if the `height` of its layers is at least `least`.
 #[derive(Clone, Copy, Debug)]
 pub struct Ranked {
     pub target: Option<u8>,
     pub least: u32,
 }
 
-/// Returns the best of the targets below `count` that are in the mask `among` and whose layers are within the wish.
+/// Considers the targets with an index below `count` that are in the mask `among` and whose layers are within the wish. Returns the best of them, or
+/// `None` if there are none.
 #[tactic(auto, using(crate::proofs::Bests::best_step))]
 pub fn best_of(wish: Wish, among: u32, count: u8, pairs: &Pairs) -> Option<u8>
     requires { count ≤ 32 }
@@ -68,7 +70,7 @@ fn better(wish: Wish, among: u32, pairs: &Pairs, target: u8, best: Ranked) -> Ra
     ensures value { result.target ≡ better_in pairs.now (allows wish among pairs.now target) target best.target }
     ensures ranked { IsRanked pairs.now (target + 1) result }
 {
-    match layers(pairs, target) {
+    match layers_in(pairs, target) {
         Some(own) => {
             if has_bit(among, target) && is_within(wish, Some(own)) && best.least <= height(own) {
                 Ranked {
@@ -93,7 +95,7 @@ fn height(layers: Wish) -> u32
 }
 
 /// Returns the target's layers, or `None` if it has none.
-pub fn layers(pairs: &Pairs, target: u8) -> Option<Wish>
+pub fn layers_in(pairs: &Pairs, target: u8) -> Option<Wish>
     requires { target < 32 }
     ensures { result ≡ layers_in pairs.now target }
 {
@@ -105,16 +107,18 @@ pub fn is_allowed(wish: Wish, among: u32, pairs: &Pairs, target: u8) -> bool
     requires { target < 32 }
     ensures { result ≡ allows wish among pairs.now target }
 {
-    has_bit(among, target) && is_within(wish, layers(pairs, target))
+    has_bit(among, target) && is_within(wish, layers_in(pairs, target))
 }
 
-/// Returns whether `target` is better than `other`. The greater spatial id decides, then the greater temporal id, then the lower index.
+/// Returns whether `target` is better than `other`. A target without layers is never better, and a target with layers is better than one without. Of
+/// two targets with layers, the one with the greater spatial id is better. If the spatial ids are equal, the greater temporal id decides, and then
+/// the lower index.
 pub fn is_better(pairs: &Pairs, target: u8, other: u8) -> bool
     requires target { target < 32 }
     requires other { other < 32 }
     ensures { result ≡ is_better_of (layers_in pairs.now target) (layers_in pairs.now other) target other }
 {
-    match (layers(pairs, target), layers(pairs, other)) {
+    match (layers_in(pairs, target), layers_in(pairs, other)) {
         (None, _) => false,
         (Some(_), None) => true,
         (Some(pair), Some(other_pair)) => {
@@ -126,7 +130,7 @@ pub fn is_better(pairs: &Pairs, target: u8, other: u8) -> bool
     }
 }
 
-/// Returns the mask of the targets below `count` that are in the mask `among` and whose layers are at most `most`.
+/// Returns a mask of the targets with an index below `count`. It has those that are in the mask `among` and whose layers are at most `most`.
 pub fn mask_within(most: Wish, among: u32, count: u8, pairs: &Pairs) -> u32
     requires { count ≤ 32 }
     ensures { result ≡ targets_where (allows most among pairs.now) count }
@@ -138,7 +142,7 @@ pub fn mask_within(most: Wish, among: u32, count: u8, pairs: &Pairs) -> u32
     mask
 }
 
-/// Returns the mask, with the target's bit added if `has` is true. The mask has only bits below the target's.
+/// Returns the mask, with the target's bit set if `has` is true. In `mask`, only bits below the target's bit may be set.
 pub fn with_target(mask: u32, target: u8, has: bool) -> u32
     requires target { target < 32 }
     requires mask { mask < 2 ^ target }
@@ -155,7 +159,7 @@ pub fn has_bit(mask: u32, target: u8) -> bool
     (mask >> target) % 2 == 1
 }
 
-/// Returns whether `pair` has layers that are both at most those of the wish.
+/// Returns true if `pair` is `Some`, and its spatial and temporal ids are both at most those of the wish. Otherwise returns false.
 pub fn is_within(wish: Wish, pair: Option<Wish>) -> bool
     ensures { result ≡ is_within wish pair }
 {

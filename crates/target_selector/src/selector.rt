@@ -14,7 +14,7 @@ ghost use Rattle.target_selector.specs.Stands.{IsAboveAll, IsAdmitted, KeepsAt, 
 ghost use Rattle.target_selector.specs.Targets.{IsBelow, IsIndexBelow};
 
 use crate::frame_offer::FrameOffer;
-use crate::frame_targets::{FrameTargets, NO_TARGETS, best_of, layers};
+use crate::frame_targets::{FrameTargets, NO_TARGETS, best_of, layers_in};
 use crate::passed_frames::{close, missing_reference, stays};
 use crate::withheld::withheld;
 use forwarding_model::{CurrentTarget, Reason};
@@ -22,8 +22,8 @@ use ref_window::RefWindow;
 use sfu_base::{FrameMeaning, Verdict, Wish};
 use std::marker::Model;
 
-/// Decides which frames a subscriber is sent. Clauses see the wish, the epoch, the target or why there is none, those passed frames of the
-/// epoch to which a later frame can refer, and the last frame's targets. They also see what [`Selector::marks_last`] and
+/// Decides which frames a subscriber is sent. Contracts see the wish, the epoch, the open target or the reason why none is open, and the last frame's
+/// targets. They see the passed frames of the epoch to which a later frame can refer. They also see what [`Selector::marks_last`] and
 /// [`Selector::opened`] return.
 #[derive(Debug, Drop)]
 pub struct Selector {
@@ -77,7 +77,7 @@ impl Selector {
         }
     }
 
-    /// Changes the wish, which applies from the next frame on. The open target stays open.
+    /// Changes the wish. The new wish applies from the next frame on. An open target stays open.
     pub fn aim(&mut self, wish: Wish)
         ensures wish { self.new ≡ record self.old { wish = wish } }
         ensures stands { (s : Standing) → StandsFor self.old s → StandsFor self.new (record s { wish = wish }) }
@@ -99,11 +99,11 @@ impl Selector {
 
     /// Returns the layers of the open target at the last frame. Returns `None` if no target
     /// is open, or if no template of that frame's structure is present in the target.
-    pub fn layers(&self) -> Option<Wish>
+    pub fn target_layers(&self) -> Option<Wish>
         ensures layers { (newest : Option Meaning) → self.now.newest ≡ option_map targets_of newest → result ≡ target_layers newest self.now.target }
     {
         match (self.epoch, self.target) {
-            (Some(_), CurrentTarget::Open { index, .. }) => layers(&self.newest.pairs, index),
+            (Some(_), CurrentTarget::Open { index, .. }) => layers_in(&self.newest.pairs, index),
             _ => None,
         }
     }
@@ -123,7 +123,7 @@ impl Selector {
         ensures verdict { (s : Standing) → StandsFor self.old s → IsAboveAll frame.now s → s.queued ≡ queued → result ≡ verdict_at s frame.now packets }
         ensures stands { (s : Standing) → StandsFor self.old s → IsAboveAll frame.now s → s.queued ≡ queued
             → StandsFor self.new (after_frame s frame.now packets) }
-        ensures room { result ≡ Passed → queued + packets ≤ 512 }
+        ensures capacity { result ≡ Passed → queued + packets ≤ 512 }
         ensures top { (s : Standing) → StandsFor self.old s → IsAboveAll frame.now s → s.queued ≡ queued → result ≡ Passed
             → self.new.top ≡ is_top_layer frame.now (candidate_at s frame.now) }
         ensures opened { (s : Standing) → StandsFor self.old s → IsAboveAll frame.now s → s.queued ≡ queued → result ≡ Passed
@@ -161,7 +161,7 @@ impl Selector {
         self.top
     }
 
-    /// Returns whether the last frame was passed and opened its target.
+    /// Returns whether the last frame was passed and opened a target.
     pub fn opened(&self) -> bool
         ensures { result ≡ self.now.opened }
     {

@@ -2,7 +2,7 @@
 ghost use Rattle.std.specs.Prelude.{◌≡◌, ◌+◌, ◌-◌, ◌&&◌, false, if◌then◌else◌, nat_lt};
 ghost use Rattle.sfu_base.specs.Frame.{IsValid};
 ghost use Rattle.sfu_base.specs.declared.frame.Verdict.TheVariants.{Behind, Passed, Reference};
-ghost use Rattle.forwarding_model.specs.forwarding.Selection.{has_room, opened_or, target_of};
+ghost use Rattle.forwarding_model.specs.forwarding.Selection.{has_capacity, opened_or, target_of};
 ghost use Rattle.target_selector.specs.Stands.{passes_by, verdict_by};
 
 use crate::frame_offer::FrameOffer;
@@ -12,8 +12,8 @@ use sfu_base::{FrameMeaning, Verdict, Wish};
 /// The greatest number of packets in a subscriber's queue (own rule).
 pub const MOST_QUEUED: u16 = 512;
 
-/// Returns why a frame is withheld. `missing` is the distance to its first reference that wasn't passed, if there is one. `opening`
-/// is the target that the frame can open, if there is one, and `kept` is the current target. Out of line: most frames pass.
+/// Returns why a frame is withheld. `missing` is the distance to the frame's first reference that wasn't passed to the subscriber, if there is one.
+/// `opening` is the target that the frame can open, if there is one, and `kept` is the current target. Out of line: most frames pass.
 #[inline(never)]
 pub fn withheld(
     offer: &FrameOffer<'_>,
@@ -90,8 +90,8 @@ fn reference_verdict(frame: &FrameMeaning, fdiff: u16) -> Verdict
 }
 
 /// Returns whether a frame of `packets` packets fits in a queue that has `queued` packets.
-pub fn has_room(packets: u16, queued: u16) -> bool
-    ensures { result ≡ has_room queued packets }
+pub fn has_capacity(packets: u16, queued: u16) -> bool
+    ensures { result ≡ has_capacity queued packets }
 {
     u32::from(queued) + u32::from(packets) <= u32::from(MOST_QUEUED)
 }

@@ -4,39 +4,41 @@ ghost use Rattle.track_core.specs.Counts.{add_where, and_gone, counted_item, cou
 
 use reorder_window::Item;
 
-/// The counters of a track since its publish (own rule). No counter overflows, since a track has at most 2^46 sequence numbers.
+/// The counters of a track. All of them start at 0 when the track is published (own rule). No counter overflows, because the unwrapped sequence numbers of
+/// a track are below 2^46.
 #[derive(Clone, Copy, Debug, PartialEq, Eq)]
 pub struct TrackCounts {
     /// The number of packets that the reorder window has returned.
     pub arrived: u64,
     /// The number of sequence numbers that were given up.
     pub given_up: u64,
-    /// The number of complete frames, which is 0 on a plain track.
+    /// The number of complete frames that the track has made. On a plain track, it is 0.
     pub frames: u64,
-    /// The number of these frames that are key frames.
+    /// The number of key frames among the complete frames that the track has made.
     pub key_frames: u64,
-    /// The number of packets that the reorder window has returned and that are in no complete frame. Such a packet belongs to a torn frame or
-    /// to a frame that isn't complete yet, or it is unreadable or padding. 0 on a plain track.
+    /// The number of packets that the reorder window has returned, except those in complete frames that the track has made. Each packet counted here is
+    /// padding or unreadable, or it belongs to a frame that the track hasn't made. That frame is torn, isn't complete yet, or has a number that isn't above
+    /// the newest frame number. On a plain track, this counter is 0.
     pub unframed: u64,
 }
 
-/// The counters as a track keeps them.
+/// The counters that a track keeps. [`TrackCounts`] is computed from them.
 #[derive(Clone, Copy, Debug)]
 pub struct Tally {
     /// The number of packets that the reorder window has returned.
     pub arrived: u64,
     /// The number of sequence numbers that were given up.
     pub given_up: u64,
-    /// The number of complete frames.
+    /// The number of complete frames that the track has made.
     pub frames: u64,
-    /// The number of these frames that are key frames.
+    /// The number of key frames among the complete frames that the track has made.
     pub key_frames: u64,
-    /// The number of packets of these frames.
+    /// The number of packets in the complete frames that the track has made.
     pub framed: u64,
 }
 
 impl Tally {
-    /// The counters before the first item.
+    /// Returns the counters before the first item: all are 0.
     pub fn new() -> Tally
         ensures { result ≡ no_tally }
     {
@@ -49,7 +51,7 @@ impl Tally {
         }
     }
 
-    /// Counts a packet, or the sequence numbers that were given up.
+    /// Counts an item: one packet, or the sequence numbers that were given up.
     #[inline(always)]
     pub fn add_item(&mut self, item: &Item)
         requires arrived { self.old.arrived < 2 ^ 63 }
@@ -81,7 +83,7 @@ impl Tally {
         self.framed += u64::from(packets);
     }
 
-    /// The counters of a layered track, or of a plain track if `layered` is false.
+    /// Returns the counters of a layered track, or those of a plain track if `layered` is false.
     pub fn counts(&self, layered: bool) -> TrackCounts
         ensures { result ≡ counts_by layered self.now }
     {

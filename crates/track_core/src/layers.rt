@@ -23,8 +23,9 @@ use rtp_packet::Rtp;
 use sfu_base::{Dti, FrameMeaning, NoMemory};
 use std::alloc::Global;
 
-/// The state of a layered track between two items. `id` is the header extension id (RFC 8285) of the descriptors. `table` says what is in force.
-/// `assembly` has the frame under assembly, and `head` the head of that frame's first descriptor. `newest` is working memory of the parser.
+/// The state of a layered track between two items. `id` is the header extension id (RFC 8285) of the descriptors. `table` holds the structure, mask and
+/// epoch in force. `assembly` holds the frame under assembly. `head` holds the parts of that frame's first descriptor from which the frame's meaning is
+/// made. `newest` is working memory of the descriptor parser.
 #[derive(Drop)]
 pub struct Layers {
     pub id: u8,
@@ -46,8 +47,8 @@ const NO_HEAD: FrameHead = FrameHead {
 };
 
 impl Layers {
-    /// A layered track before its first packet. Its descriptors have this header extension id. Allocates the memory for the frame under assembly,
-    /// or returns `NoMemory`.
+    /// Returns the state of a layered track before its first packet. `id` is the header extension id of the track's descriptors. Allocates the memory for
+    /// the frame under assembly, or returns `NoMemory`.
     pub fn new(alloc: Global, id: u8) -> Result<Layers, NoMemory>
         ensures id { IfOk result (λ layers. layers.id ≡ id) }
         ensures stands { IfOk result (λ layers. IsAfter layers []) }
@@ -62,7 +63,7 @@ impl Layers {
         })
     }
 
-    /// Processes sequence numbers that were given up. The frame under assembly is torn, so it can't become complete.
+    /// Processes sequence numbers that were given up. If there is a frame under assembly, it can't become complete any more, and is dropped.
     pub fn give_up(&mut self)
         ensures id { self.new.id ≡ self.old.id }
         ensures near { self.new.table.newest ≤ self.old.table.newest }
@@ -71,7 +72,7 @@ impl Layers {
         let _ = self.assembly.push(&Mark::Gone, &[]);
     }
 
-    /// Processes the next packet, which is in `slot`. The assembly may keep that slot and leave another one in its place. If the packet
+    /// Processes the next packet, which is in `slot`. The assembly may keep the packet's slot. It then puts another slot into `slot`. If the packet
     /// completes a frame, returns true and writes the frame's meaning to `meaning`.
     pub fn take(&mut self, slot: &mut Box<PacketSlot>, meaning: &mut FrameMeaning) -> bool
         requires taken { IsTaken slot.old.value }
@@ -101,8 +102,8 @@ impl Layers {
         let bytes = slot.bytes();
         match rtp_packet::read(bytes) {
             Ok(packet) => self.look(&packet, bytes),
-            // This can't happen, because the packet was accepted and so is valid RTP.
-            Err(_) => Mark::Unread,
+            // The track accepts only valid RTP.
+            Err(_) => unreachable!(),
         }
     }
 
@@ -172,8 +173,8 @@ fn keep_head(mark: &Mark, table: &FrameTable, newest: &Descriptor, head: &mut Fr
     }
 }
 
-/// Processes one item of a layered track. If `came` is true, the item is the packet in `slot`; otherwise it is sequence numbers that were given
-/// up. If the item completes a frame, returns true and writes the frame's meaning to `meaning`.
+/// Processes one item of a layered track. If `came` is true, the item is the packet in `slot`. If `came` is false, the item is a gap: sequence numbers that
+/// were given up. If the item completes a frame, returns true and writes the frame's meaning to `meaning`.
 pub fn work_off(
     layers: &mut Layers,
     came: bool,

@@ -1,5 +1,5 @@
-//! The pipeline of one publisher's track. Packets that arrive in any order are put in order, and become plain packets or complete frames. Only
-//! the constructor allocates memory.
+//! Processes the packets of one publisher's track. The packets may arrive in any order, and are put in order. On a plain track, the packets are then passed
+//! on one by one. On a layered track, the packets are assembled into complete frames. Only the constructor allocates memory.
 #![tactic(auto)]
 
 mod counts;

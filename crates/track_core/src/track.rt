@@ -25,35 +25,35 @@ use sfu_base::{FrameMeaning, Kind, NoMemory, Refusal, SeqList};
 use std::alloc::Global;
 use std::marker::Model;
 
-/// What one item made.
+/// The result of [`Track::step`], which processes one item.
 #[derive(Clone, Copy, Debug)]
 pub enum Made {
     /// No item waits.
     Idle,
-    /// The item made neither a packet nor a frame.
+    /// The item gave neither a packet nor a complete frame.
     Nothing,
-    /// The item made a packet of a plain track.
+    /// The item is a packet of a plain track.
     Packet,
-    /// The item made a complete frame of a layered track.
+    /// The item completed a frame of a layered track.
     Frame(FrameMeaning),
 }
 
-/// What one item made. The track keeps the meaning of a frame.
+/// The result of [`Track::advance`]. It doesn't include the meaning of a frame, which the track keeps.
 #[derive(Clone, Copy, Debug)]
 pub enum Advance {
     /// No item waits.
     Idle,
-    /// The item made neither a packet nor a frame.
+    /// The item gave neither a packet nor a complete frame.
     Nothing,
-    /// The item made a packet of a plain track.
+    /// The item is a packet of a plain track.
     Packet,
-    /// The item made a complete frame of a layered track. [`Track::meaning`] returns its meaning.
+    /// The item completed a frame of a layered track. [`Track::meaning`] returns the frame's meaning.
     Frame,
 }
 
-/// The packets of one publisher's track, from their arrival to plain packets or complete frames. Contracts see the SSRC, the reorder window
-/// with its waiting items, and the state of a layered track. Contracts also see the packets that the last step made, the meaning and number of
-/// the last frame made, and the counters.
+/// Processes the packets of one publisher's track, from their arrival until they are packets of a plain track or complete frames of a layered track.
+/// Contracts see the SSRC, the reorder window with its waiting items, and the state of a layered track. Contracts also see the packets that the last
+/// `advance` or `step` made, the meaning and the number of the last frame, and the counters.
 #[derive(Drop)]
 pub struct Track {
     ssrc: u32,
@@ -85,8 +85,8 @@ impl Model for Track {
 }
 
 impl Track {
-    /// A track before its first packet. A packet behind a gap is buffered until the gap is filled or is given up. A gap is given up after
-    /// `hold` milliseconds. Returns `NoMemory` if memory runs out. No later call allocates memory.
+    /// Returns a track before its first packet, or `NoMemory` if memory runs out. A packet after a gap is buffered until the gap is filled or given up. A
+    /// gap is given up after `hold` milliseconds. No later call allocates memory.
     pub fn new(alloc: Global, kind: Kind, ssrc: u32, hold: u32) -> Result<Track, NoMemory>
         ensures stands { IfOk result (λ track. StandsFor track [] []) }
         ensures ssrc { IfOk result (λ track. track.ssrc ≡ ssrc) }
@@ -112,10 +112,11 @@ impl Track {
         })
     }
 
-    /// Accepts a packet that arrives at `moment`, in milliseconds. First call [`Track::advance`] until it returns `Idle`. The packets of the last
-    /// step stay readable. A refused packet changes nothing, and the error is the first that applies. `TooBig`: more than 1,500 bytes.
-    /// `Unreadable`: not RTP. `WrongSsrc`: the SSRC isn't the track's. `Spent`: the unwrapped number is 2^46 or more. `Late`: the number is below
-    /// the next one. `Repeat`: a packet with this number is buffered already.
+    /// Accepts a packet that arrives at `moment`, in milliseconds. All waiting items must be processed before this call. When none is left,
+    /// [`Track::advance`] returns `Idle`. The packets that the last `advance` or `step` made stay readable. If the packet is refused, nothing changes. The
+    /// error is then the first of the following that applies. `TooBig`: the packet has more than 1,500 bytes. `Unreadable`: the bytes aren't an RTP packet.
+    /// `WrongSsrc`: the packet's SSRC isn't that of the track. `Spent`: the unwrapped sequence number is 2^46 or more. `Late`: the unwrapped sequence
+    /// number is below the lowest number for which the track still waits. `Repeat`: a packet with this sequence number is already buffered.
     pub fn arrive(&mut self, moment: u64, bytes: &[u8]) -> Result<(), Refusal>
         requires idle { self.old.window.waiting ≡ [] }
         requires length { length bytes.now ≤ 4294967295 }
@@ -147,8 +148,9 @@ impl Track {
         }
     }
 
-    /// Advances the track's time to `moment`, in milliseconds, and gives up the gaps that are due. First call [`Track::advance`] until it
-    /// returns `Idle`. The packets of the last step stay readable.
+    /// Advances the track's time to `moment`, in milliseconds. If the packet after the lowest gap has been buffered for the hold time, the gap is given up.
+    /// The same rule then applies to the next gap, and so on. All waiting items must be processed before this call. When none is left, [`Track::advance`]
+    /// returns `Idle`. The packets that the last `advance` or `step` made stay readable.
     pub fn tick(&mut self, moment: u64)
         requires idle { self.old.window.waiting ≡ [] }
         ensures stands { (events : List Event) (worked : List Piece) → StandsFor self.old events worked → StandsFor self.new (Ticks moment ∷ events) worked }
@@ -158,8 +160,8 @@ impl Track {
         self.window.tick(moment);
     }
 
-    /// Returns the earliest moment, in milliseconds, at which a tick gives up a gap. This earliest moment is that of the buffered packet with
-    /// the lowest number, plus the hold time. `None` if no packet is buffered, or if the sum is 2^64 or more.
+    /// Returns the earliest moment, in milliseconds, at which a tick gives up a gap. This is the moment at which the buffered packet with the lowest
+    /// sequence number was buffered, plus the hold time. Returns `None` if no packet is buffered, or if the sum is 2^64 or more.
     pub fn due(&self) -> Option<u64>
         ensures { result ≡ due_of self.now.window.hold self.now.window.order }
     {
@@ -173,8 +175,8 @@ impl Track {
         self.window.missing(out);
     }
 
-    /// The template structure in force on a layered track after the items processed so far. `None` before the first key start, and on a plain
-    /// track.
+    /// Returns the template dependency structure that is in force after the items processed so far. Returns `None` before the first key start, and on a
+    /// plain track. A key start is the first packet of a key frame.
     pub fn force(&self) -> Option<&Structure>
         ensures kept { option_copied result ≡ structure_in self.now.layers }
         ensures stands { (events : List Event) (worked : List Piece) → StandsFor self.now events worked
@@ -183,7 +185,8 @@ impl Track {
         structure_of(&self.layers)
     }
 
-    /// The id of the header extension element (RFC 8285) with the dependency descriptors of a layered track, or `None` on a plain track.
+    /// Returns the id of the header extension elements (RFC 8285) that hold the dependency descriptors of a layered track. Returns `None` for a plain
+    /// track.
     pub fn id(&self) -> Option<u8>
         ensures { result ≡ option_map id_of self.now.layers }
     {
@@ -193,7 +196,7 @@ impl Track {
         }
     }
 
-    /// Processes one item. After `Frame`, [`Track::meaning`] returns the frame's meaning. Returns `Idle` exactly if no item waited.
+    /// Processes one item, if one waits. Returns `Idle` exactly if no item waits. After `Frame`, [`Track::meaning`] returns the frame's meaning.
     pub fn advance(&mut self) -> Advance
         ensures rest { self.new.window ≡ record self.old.window { waiting = drop 1 self.old.window.waiting } }
         ensures idle { (result ≡ Advance.Idle) ↔ (self.old.window.waiting ≡ []) }
@@ -231,7 +234,7 @@ impl Track {
         made
     }
 
-    /// Processes one item like [`Track::advance`], and returns a frame together with a copy of its meaning.
+    /// Processes one item like [`Track::advance`]. If the item makes a frame, also returns a copy of the frame's meaning.
     pub fn step(&mut self) -> Made
         ensures rest { self.new.window ≡ record self.old.window { waiting = drop 1 self.old.window.waiting } }
         ensures idle { (result ≡ Made.Idle) ↔ (self.old.window.waiting ≡ []) }
@@ -251,7 +254,7 @@ impl Track {
         with_meaning(advance, self.meaning())
     }
 
-    /// Returns the number of the newest frame made, or `None` before the first frame and on a plain track.
+    /// Returns the unwrapped number of the newest frame that the track has made. Returns `None` before the first frame, and on a plain track.
     pub fn newest_frame(&self) -> Option<u64>
         ensures { (events : List Event) (worked : List Piece) → StandsFor self.now events worked
             → result ≡ newest_after (option_map id_of self.now.layers) worked }
@@ -259,8 +262,8 @@ impl Track {
         self.newest
     }
 
-    /// Returns the counters over all items processed since the track began. There are counters of packets, of sequence numbers that were given
-    /// up, of complete frames, of key frames, and of packets in no complete frame.
+    /// Returns the track's counters, which cover all items processed so far. They count packets, sequence numbers that were given up, complete frames, key
+    /// frames, and packets in no complete frame.
     pub fn counts(&self) -> TrackCounts
         ensures { (events : List Event) (worked : List Piece) → StandsFor self.now events worked
             → result ≡ counts_after (option_map id_of self.now.layers) worked }
@@ -268,14 +271,15 @@ impl Track {
         self.tally.counts(self.layers.is_some())
     }
 
-    /// The meaning of the last frame made. Before the first frame it is a placeholder.
+    /// Returns the meaning of the last frame that the track has made. Before the first frame, returns a placeholder.
     pub fn meaning(&self) -> &FrameMeaning
         ensures { result.now ≡ self.now.meaning }
     {
         &self.meaning
     }
 
-    /// How many packets the last step made: 1 for a plain packet, the number of its packets (at most 512) for a frame, and otherwise 0.
+    /// Returns the number of packets that the last `advance` or `step` made. If it made a packet of a plain track, the number is 1. If it made a frame, the
+    /// number is that of the frame's packets, at most 512. Otherwise the number is 0.
     pub fn count(&self) -> u16
         ensures count { result ≡ length self.now.packets }
         ensures few { length self.now.packets ≤ 512 }
@@ -289,7 +293,8 @@ impl Track {
         }
     }
 
-    /// The bytes of the packet at `place`, counted from 0, among the packets that the last step made. It is an RTP packet of at most 1,500 bytes.
+    /// Returns the bytes of one of the packets that the last `advance` or `step` made. `place` is the packet's place among them, counted from 0. The bytes
+    /// are an RTP packet of at most 1,500 bytes.
     pub fn packet(&self, place: u16) -> &[u8]
         requires { place < length self.now.packets }
         ensures at { slice_get self.now.packets place ≡ Some result.now }

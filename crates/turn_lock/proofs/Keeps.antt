@@ -16,7 +16,7 @@ use Rattle.turn_lock.specs.declared.view.Stage.{Stage}
 use Rattle.turn_lock.specs.declared.view.Stage.TheVariants.{Idle, Waiting, Holding, Spent}
 use Rattle.turn_lock.specs.History.{own_of, AllBelow, AllJoined}
 use Rattle.turn_lock.specs.Views.{HasTicket, IsLive, Sound, seeing, drawing, serving, counting, next_seat, first_seat, spent_seat, joining}
-use Rattle.turn_lock.specs.Rule.{Queues, Knows, AtHome, Kept, drew, looked, served, told}
+use Rattle.turn_lock.specs.Rule.{Queues, Knows, AtHome, Kept, drew, looked, served, peeked}
 use Rattle.turn_lock.proofs.Lists.{prefix_self, prefix_more, prefix_shorter, prefix_whole, prefix_length, at_end, at_tail, tail_length, within, there, alone}
 use Rattle.turn_lock.proofs.Histories.{own_append, own_here, own_else, own_same, own_between, below_append, below_prefix, below_more, own_above, joined_also, joined_append, joined_between, joined_none}
 
@@ -320,8 +320,8 @@ module _ {S C : Type 0} (stands : S → List (Entry C) → Type 0) (first : ℕ)
         ((λ e. let both : Waiting t ≡ Waiting n = sym wait ∙ e in let same : t ≡ n = cc in absurd (miss (sym same))), λ _. refl),
       ))
 
-  pub tells : (slots id : ℕ) (me : M) → me.0.stage ≡ Idle → Allows Rule slots id me 1 (λ n. n) (told (step slots 1 0 0 none) me)
-  tells slots id me idle s r _ at _ =
+  pub peeks : (slots id : ℕ) (me : M) → me.0.stage ≡ Idle → Allows Rule slots id me 1 (λ n. n) (peeked (step slots 1 0 0 none) me)
+  peeks slots id me idle s r _ at _ =
       let v : V = me.0 in
       let alive : IsLive v.stage = subst IsLive (sym idle) tt in
       let k = r.live id v at alive in (

@@ -89,8 +89,8 @@ module _ {S C : Type 0} where
   served es st m found m' = (m' ≡ (serving m.0 es, [])) × (found ≡ m.0.base + length m.0.seen)
 
   -- the list that the seat has seen, and the other list seen at its last join, are prefixes of one history
-  abbrev pub told : Step (Opt S) → Sat S C → ℕ → Sat S C → Type 0
-  told st m found m' = (m' ≡ m) × Sound m.0 × ((h : List (Entry C)) × IsPrefix m.0.seen h × IsPrefix m.0.beside h)
+  abbrev pub peeked : Step (Opt S) → Sat S C → ℕ → Sat S C → Type 0
+  peeked st m found m' = (m' ≡ m) × Sound m.0 × ((h : List (Entry C)) × IsPrefix m.0.seen h × IsPrefix m.0.beside h)
 
   -- the second is the same seat of the same table
   abbrev pub IsSame : Seat (Opt S) (View C) → Seat (Opt S) (View C) → Type 0

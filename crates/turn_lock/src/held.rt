@@ -5,7 +5,7 @@ ghost use Rattle.turn_lock.specs.History.{entry};
 
 use std::marker::Brand;
 
-/// A value that serves calls. In contracts it represents the list of the calls that it has served.
+/// A value that serves calls. In contracts, the value represents the list of the calls that it has served.
 pub trait Held: Drop {
     type Call;
 
@@ -17,7 +17,7 @@ pub trait Held: Drop {
     /// Whether the value represents this list of entries.
     ghost stands: { Self → List (Entry Self.Call) → Type 0 };
 
-    /// Whether a call by the seat with this number, after these entries, may return this reply and leave this content in the scratch.
+    /// Whether this call, made after these entries by the seat with this number, may return this reply and leave this content in the scratch.
     ghost gives: { List (Entry Self.Call) → ℕ → Self.Call → Self.Reply → Self.Scratch → Type 0 };
 
     /// Whether the reply says that memory ran out.

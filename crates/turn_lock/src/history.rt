@@ -10,7 +10,7 @@ pub struct Entry<C> {
     pub starved: bool,
 }
 
-/// A seat that was joined into the first seat, which has number 0.
+/// A seat that was joined into the first seat. The first seat has number 0.
 pub struct Joined<C> {
     /// The seat's number, which is above 0.
     pub number: u32,

@@ -9,7 +9,7 @@ ghost use Rattle.turn_lock.specs.Views.{Sound, seeing, serving};
 ghost use Rattle.turn_lock.specs.Rule.{IsSame, Rests, Waits, IsWorn, Has};
 
 use crate::held::{Held, Naming};
-use crate::plays::{Both, Draw, Look, Next, Serve, Tell, Ticketed};
+use crate::plays::{Both, Draw, Look, Next, Peek, Serve, Ticketed};
 use crate::view::View;
 use atomic_table::Table;
 use crossbeam_utils::Backoff;
@@ -21,7 +21,7 @@ use std::marker::{Brand, Model};
 use std::sync::Wait;
 use thiserror::Error;
 
-/// The index of the word that contains the next ticket, which no thread has drawn.
+/// The index of the word that contains the next ticket. No thread has drawn this ticket yet.
 const NEXT_TICKET: usize = 0;
 
 /// The index of the word that contains the ticket being served.
@@ -31,7 +31,7 @@ const SERVED_TICKET: usize = 1;
 /// all threads that sleep at the next ticket's gate. While at most `GATES` threads wait, each has its own gate.
 const GATES: usize = 64;
 
-/// A thread may spin if its ticket is at most this far behind the served ticket; any other thread sleeps at once.
+/// A waiting thread may spin if its ticket exceeds the served ticket by at most this number. Any other waiting thread sleeps at once.
 const NEAR: u64 = 1;
 
 /// Every ticket is below this number.
@@ -77,9 +77,10 @@ impl<H: Held> Model for Turns<H> {
     ghost invariant = { λ t. (t.table.shared.table_id.words ≡ 2) × (t.table.shared.table_id.slots ≡ 1) };
 }
 
-/// A thread's handle on a lock: with it the thread makes turns, one at a time. Contracts see the seat's number, its lock, and the place of the lock's first
-/// entry. They see the prefix of the history that the seat has seen, and its own entries. They see the greatest next ticket that a draw of this seat found;
-/// for the first seat, the draws of the seats joined into it count too. For the first seat they also see how many seats were made and which were joined.
+/// A thread's handle on a lock: with it the thread makes turns, one at a time. Contracts see the seat's number, its lock, and the place of the lock's
+/// first entry. They see the prefix of the history that the seat has seen, and the seat's own entries. Each draw of a seat reads the number of the
+/// next ticket. Contracts see the greatest number that a draw of this seat read. For the first seat, the draws of the seats joined into it count too.
+/// For the first seat they also see how many seats were made and which were joined.
 #[derive(Drop)]
 pub struct Seat<H: Held> {
     inner: atomic_table::Seat<Option<H>, View<H::Call>>,
@@ -139,7 +140,7 @@ impl<H: Held> Turns<H> {
     pub fn split(&self, seat: &mut Seat<H>) -> Seat<H>
         requires lock { seat.old.lock ≡ self.now }
         requires first { seat.old.number ≡ 0 }
-        requires room { seat.old.count < 1024 }
+        requires capacity { seat.old.count < 1024 }
         ensures old { seat.new ≡ counted seat.old }
         ensures new { result ≡ another seat.old }
         ensures fits { Fits seat.new × Fits result }
@@ -154,8 +155,8 @@ impl<H: Held> Turns<H> {
         }
     }
 
-    /// Joins the seat `from` into the first seat `into`, which then has the number and the entries of `from` too. Each of
-    /// the two seats has seen a prefix of the history; `into` keeps the longer one. The shorter one is a prefix of it.
+    /// Joins the seat `from` into the first seat `into`. Then `into` also records the number and the entries of `from`. Each of the two seats has
+    /// seen a prefix of the history, and `into` keeps the longer prefix. The shorter prefix is a prefix of the longer one.
     pub fn join(&self, into: &mut Seat<H>, from: Seat<H>)
         requires lock { (into.old.lock ≡ self.now) × (from.lock ≡ self.now) }
         requires first { into.old.number ≡ 0 }
@@ -172,7 +173,7 @@ impl<H: Held> Turns<H> {
         self.table.shared.join_seat::<Both>(&mut into.inner, inner);
         self.table
             .shared
-            .load::<Tell>(&mut into.inner, SERVED_TICKET);
+            .load::<Peek>(&mut into.inner, SERVED_TICKET);
     }
 
     /// Draws a ticket, waits until all turns with earlier tickets are over, and serves the call on the
@@ -250,8 +251,8 @@ impl<H: Held> Turns<H> {
         unreachable!()
     }
 
-    /// Waits until the ticket is served, and takes the value. A thread whose ticket is next spins and
-    /// yields for a short time, and then sleeps at its gate. A thread further back sleeps at once.
+    /// Waits until the ticket is served, and takes the value. The thread with the next ticket spins
+    /// and yields for a short time, then sleeps at its gate. A thread further back sleeps at once.
     fn wait<W: Wait>(
         &self,
         rt: &W,
@@ -289,8 +290,8 @@ impl<H: Held> Turns<H> {
         unreachable!()
     }
 
-    /// Puts the value back and makes the next ticket the served one. This adds the entry to the history. Returns the entry's place.
-    fn give_back<J: Naming<H::Call>>(
+    /// Puts the value back and makes the next ticket the served one. This adds the call's entry to the history. Returns the entry's place.
+    fn release<J: Naming<H::Call>>(
         &self,
         inner: &mut atomic_table::Seat<Option<H>, View<H::Call>>,
         call: &H::Call,
@@ -332,7 +333,7 @@ impl<H: Held> Turns<H> {
         };
         let reply = value.serve(number, call, scratch);
         let _none = self.table.shared.exchange(inner, 0, Some(value));
-        let place = self.give_back::<Brand>(inner, call, &reply);
+        let place = self.release::<Brand>(inner, call, &reply);
         self.gates[gate_of(place.wrapping_add(1))].notify_all();
         (place, reply)
     }

@@ -1,4 +1,4 @@
-//! The rule of the lock, and how each kind of step changes the view of the seat that makes it.
+//! The rule of the lock, and how each kind of step changes the view of the seat that makes the step.
 use crate::held::{Held, Naming};
 use crate::view::View;
 use atomic_table::{Join, Play, Split, TableRule};
@@ -18,7 +18,7 @@ impl<H: Held> TableRule<Option<H>, View<H::Call>, u64> for Ticketed<H> {
     ghost first = { λ first. first_seat first };
 }
 
-/// Draws the next ticket if it is the expected one.
+/// Draws the next ticket if its number is the expected one.
 pub(crate) struct Draw;
 
 impl<H, C> Play<Option<H>, View<C>> for Draw {
@@ -49,13 +49,13 @@ impl<H, C, J: Naming<C>> Play<Option<H>, View<C>> for Serve<J> {
     ghost then = { served J.adds };
 }
 
-/// Changes nothing. After a join it shows that the lists that the two seats have seen are both prefixes of one history.
-pub(crate) struct Tell;
+/// Changes nothing. After a join, this step shows that the two seats have seen prefixes of one history.
+pub(crate) struct Peek;
 
-impl<H, C> Play<Option<H>, View<C>> for Tell {
-    ghost use Rattle.turn_lock.specs.Rule.{told};
+impl<H, C> Play<Option<H>, View<C>> for Peek {
+    ghost use Rattle.turn_lock.specs.Rule.{peeked};
 
-    ghost then = { told };
+    ghost then = { peeked };
 }
 
 /// Makes a seat with the next number.

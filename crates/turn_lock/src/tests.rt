@@ -76,7 +76,7 @@ fn seats_for<H: Held>(
 ) -> Result<Vec<Seat<H>>, AllocError>
     requires lock { first.old.lock ≡ turns.now }
     requires first { first.old.number ≡ 0 }
-    requires room { first.old.count + threads ≤ 1024 }
+    requires capacity { first.old.count + threads ≤ 1024 }
     ensures lock { first.new.lock ≡ turns.now }
     ensures seats { IfOk result (λ seats. All (λ seat. seat.lock ≡ turns.now) seats.items) }
 {
@@ -87,7 +87,8 @@ fn seats_for<H: Held>(
     Ok(seats)
 }
 
-/// Adds 1 in each of `TURNS_EACH` turns, and returns the places. Returns `None` if a turn failed, or if a reply didn't fit its place.
+/// Adds 1 in each of `TURNS_EACH` turns, and returns the places. Returns `None` if a turn failed, if memory ran out, or if a reply wasn't the place
+/// of its turn plus 1.
 fn count<W: Wait + Sync>(
     rt: &W,
     alloc: Global,
@@ -145,7 +146,7 @@ fn eight_threads_make_each_place_once(rt: HostRuntime) -> Result<(), Fail> {
 /// The number of threads: more than there are gates.
 const SLEEPERS: u32 = 80;
 
-/// Counts its calls. Each call takes a tenth of a millisecond, so that threads that wait for their turns fall asleep.
+/// A value that counts its calls. Each call takes a tenth of a millisecond, so that waiting threads fall asleep.
 #[derive(Drop)]
 struct Slow<R: Clock + Drop> {
     made: u64,
@@ -174,7 +175,7 @@ impl<R: Clock + Drop> Held for Slow<R> {
     }
 }
 
-/// Makes four turns, and returns whether each reply fits its place.
+/// Makes four turns. Returns whether each turn succeeded with the reply that is the turn's place plus 1.
 fn wait_for_four<R: Clock + Drop, W: Wait + Sync>(
     rt: &W,
     turns: &Turns<Slow<R>>,

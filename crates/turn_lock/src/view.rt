@@ -22,13 +22,14 @@ pub struct View<C> {
     /// The prefix of the history that the seat has seen.
     pub seen: LinkedList<Entry<C>>,
     pub own: LinkedList<Entry<C>>,
-    /// The greatest next ticket that a draw of this seat found; for the first seat, the draws of the seats joined into it count too. 0 before the first draw.
+    /// Each draw of a seat reads the number of the next ticket. This is the greatest number that a draw of this seat read, or 0 before the first
+    /// draw. For the first seat, the draws of the seats joined into it count too.
     pub found: u64,
-    /// For the first seat: the number of seats made so far, itself included.
+    /// For the first seat: the number of seats made so far, including this one.
     pub count: u32,
     /// For the first seat: the seats that were joined into it.
     pub joined: LinkedList<Joined<C>>,
-    /// For the first seat: the shorter of the two prefixes that the seats of the last join had seen. Empty before the first join.
+    /// For the first seat: the shorter of the two prefixes that the two seats of the last join had seen. It is empty before the first join.
     pub beside: LinkedList<Entry<C>>,
     pub stage: Stage,
 }

@@ -36,24 +36,25 @@ const fn template(
     }
 }
 
-/// The five flags of a descriptor that carries only a structure.
+/// The five flag bits of a descriptor. Only template_dependency_structure_present_flag is set.
 const FLAGS: u32 = 0b10000;
 
-/// One target in one chain. The templates are a key frame, and a frame that refers to the frame before it.
+/// A structure with one target, which is protected by one chain. Template 0 is for a key frame. Template 1 is for a frame that refers to the previous
+/// frame.
 const A: [u8; 6] = [0x80, 0x00, 0x3a, 0x41, 0x01, 0x00];
 
-/// Two spatial layers; each target is protected by its own chain.
+/// A structure with two spatial layers. Each target is protected by its own chain.
 const C: [u8; 13] = [
     0x80, 0x01, 0x23, 0xee, 0x88, 0x45, 0x04, 0x22, 0xe0, 0x02, 0x11, 0x11, 0x10,
 ];
 
-/// The same structure with the resolutions 640 x 360 and 1280 x 720.
+/// Structure `C` with the resolutions 640 x 360 and 1280 x 720.
 const C_RESOLUTIONS: [u8; 21] = [
     0x80, 0x01, 0x23, 0xee, 0x88, 0x45, 0x04, 0x22, 0xe0, 0x02, 0x11, 0x11, 0x18, 0x13, 0xf8, 0x0b,
     0x38, 0x27, 0xf8, 0x16, 0x78,
 ];
 
-/// Two spatial and two temporal layers, and four targets.
+/// A structure with two spatial layers, two temporal layers and four targets.
 const D_BYTES: [u8; 22] = [
     0x80, 0x03, 0x18, 0x7f, 0xaf, 0xac, 0x4a, 0x0a, 0x04, 0x04, 0xd1, 0x41, 0x09, 0xa1, 0x15, 0x80,
     0x08, 0x64, 0x22, 0x22, 0x26, 0x40,
@@ -65,7 +66,7 @@ fn read(bytes: &[u8]) -> Result<Structure, Fail> {
     Ok(Structure::read(&mut bits)?)
 }
 
-/// Checks that the structure has the contents of the rows, and that it is written back to the bytes from which it was read.
+/// Checks that the structure has the contents given by `guards` and `rows`. Then checks that writing the structure gives `bytes`, from which it was read.
 fn expect(
     rt: &impl Abort,
     bytes: &[u8],
@@ -119,8 +120,8 @@ fn structures_are_read_field_by_field_and_written_back(rt: HostRuntime) -> Resul
     expect(&rt, &D_BYTES, &read(&D_BYTES)?, &[1, 1, 0, 0], &d)
 }
 
-/// A structure that a test writes. Its layer codes are `codes`, then the code 0 (same layer) `same` times, then
-/// `end`. It has `targets` decode targets and `chains` chains, and each template has `distances` distances.
+/// A structure that a test writes. Its layer codes are first those in `codes`, then the code 0 (same layer) `same` times, and last `end`. It has `targets`
+/// decode targets and `chains` chains, and each template has `distances` distances.
 #[derive(Clone, Copy)]
 struct Case {
     codes: &'static [u32],
@@ -129,7 +130,7 @@ struct Case {
     targets: u32,
     chains: u32,
     distances: u32,
-    /// The expected result: the greatest spatial and temporal ids, or a fault.
+    /// The expected result of reading: the greatest spatial id and the greatest temporal id, or a fault.
     found: Result<(u8, u8), StructureFault>,
 }
 
@@ -175,7 +176,7 @@ fn put_head(out: &mut BitWriter, case: &Case) -> Result<(), NoRoom> {
     put(out, 2, case.end)
 }
 
-/// Writes the templates. Every target is required, and every distance is 16.
+/// Writes the templates. Every indication is Required, and every frame distance is 16.
 fn put_templates(out: &mut BitWriter, case: &Case) -> Result<(), NoRoom> {
     for _ in 0..templates(case) {
         for _ in 0..case.targets {
@@ -207,7 +208,7 @@ fn put_chains(out: &mut BitWriter, case: &Case) -> Result<(), NoRoom> {
     Ok(())
 }
 
-/// Writes the resolutions: the greatest width and the least height.
+/// Writes the resolutions. Each resolution has the greatest width, 65,536 pixels, and the least height, 1 pixel.
 fn put_resolutions(out: &mut BitWriter, case: &Case) -> Result<(), NoRoom> {
     put(out, 1, 1)?;
     put(out, 16, 0xffff)?;

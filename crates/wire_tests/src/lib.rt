@@ -1,6 +1,6 @@
 #![tactic(auto)]
-//! Tests of the crates that read and write RTP, its header extensions, RTX, the AV1 payload and the dependency descriptor,
-//! and of whole packets that carry a descriptor. The tests aren't in those crates, since a crate with tests is proved twice.
+//! Tests of the crates that read and write RTP, header extensions, RTX, AV1 payloads and dependency descriptors. There are also tests of whole packets that
+//! carry a descriptor. The tests aren't in those crates themselves, because a crate with tests is proved twice.
 
 #[cfg(test)]
 mod av1_payload_tests;

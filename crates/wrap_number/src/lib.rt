@@ -9,7 +9,8 @@ ghost use Rattle.wrap_number.specs.Number.{NearestIsNearest, LeastIsLeast, Above
 // How many numbers of 16 bits there are.
 const TURN: u32 = 65_536;
 
-/// Of the numbers that are `n` modulo 65,536, returns the one nearest to `newest` (own rule). If two are equally near, returns the lower one.
+/// Returns the number nearest to `newest` that is congruent to `n` modulo 65,536 (own rule). If two such numbers are equally near, returns the lower
+/// one.
 pub fn place(newest: i64, n: u16) -> i64
     requires low { neg_ℤ (pos (2 ^ 62)) ≤ℤ newest }
     requires high { newest ≤ℤ pos (2 ^ 62) }
@@ -32,7 +33,7 @@ fn ahead(newest: i64, n: u16) -> u32
     (u32::from(n) + TURN - newest.rem_euclid(i64::from(TURN)) as u32) % TURN
 }
 
-/// Of the numbers above `newest` that are `n` modulo 65,536, returns the least (own rule).
+/// Returns the least number above `newest` that is congruent to `n` modulo 65,536 (own rule).
 pub fn above(newest: u64, n: u16) -> u64
     requires { newest < 2 ^ 63 }
     ensures least { IsLeastAbove newest n result }
@@ -42,13 +43,13 @@ pub fn above(newest: u64, n: u16) -> u64
     newest + (u64::from(n) + turn - 1 - newest % turn) % turn + 1
 }
 
-/// A law: at most one number fulfils `IsNearest`, and at most one fulfils `IsLeastAbove`.
+/// A law: for the same `newest` and `n`, at most one number fulfils `IsNearest`, and at most one fulfils `IsLeastAbove`.
 pub fn one_number_is_meant()
     ensures { IsOne }
 {}
 
-/// Laws for all numbers: `nearest_to` is the nearest number, and `least_above` is the least number above. `is_above` is true exactly when the
-/// nearest number lies above `newest`. If it does, `number_above` is the nearest number.
+/// Laws for all numbers. `nearest_to` is the number nearest to `newest`, and `least_above` is the least number above `newest`. `is_above` is true
+/// exactly when the nearest number lies above `newest`. In this case, `number_above` is the nearest number.
 pub fn values_are_nearest_and_least()
     ensures nearest { NearestIsNearest }
     ensures least { LeastIsLeast }
@@ -56,7 +57,8 @@ pub fn values_are_nearest_and_least()
     ensures found { NearestAboveIsFound }
 {}
 
-/// A law for a number above `newest` that is `n` modulo 65,536: it is the nearest exactly if it is less than 32,768 above `newest`.
+/// A law about a number above `newest` that is congruent to `n` modulo 65,536. It is the number nearest to `newest` exactly if it is less than 32,768
+/// above `newest`.
 pub fn near_above_is_nearest()
     ensures { NearIsNearestAbove }
 {}

@@ -10,7 +10,7 @@ ghost use Rattle.cascade.specs.Standing.{StandsAfter};
 use crate::endpoint::{EXTENSION, Endpoint, SEAT};
 use crate::two_rooms::{found, wish};
 use room_core::{KeepNone, Room};
-use sfu_base::{Kind, NoMemory, PacketBuf, Scratch, SeqList};
+use sfu_base::{Kind, NoMemory, PacketBuf, Scratch};
 use std::alloc::Global;
 
 const TRACK: u32 = 1;
@@ -44,7 +44,7 @@ fn open(alloc: Global) -> Result<Room<KeepNone>, NoMemory>
 }
 
 impl Stage {
-    /// Returns the stage before the stream: the track is published, and its subscribers have joined.
+    /// Returns a stage to which no packet has been fed yet. Its track is published, and the three subscribers have joined.
     pub fn new(alloc: Global) -> Result<Stage, NoMemory>
         ensures { IfOk result (λ stage. IsStaged stage opened) }
     {
@@ -54,24 +54,21 @@ impl Stage {
         let third = Endpoint::new(alloc)?;
         Ok(Stage {
             room,
-            scratch: Scratch {
-                packet: PacketBuf::new(),
-                names: SeqList::new(),
-            },
+            scratch: Scratch::new(),
             first,
             second,
             third,
         })
     }
 
-    /// Feeds a packet to the track at this moment (milliseconds).
+    /// Feeds a packet to the track at the time `moment`, in milliseconds.
     pub fn packet(&mut self, moment: u64, bytes: &PacketBuf)
         ensures { (past : List Call) → IsStaged self.old past → IsStaged self.new (and_call past (call.Packet 1 moment bytes.now)) }
     {
         self.room.packet(SEAT, TRACK, moment, bytes);
     }
 
-    /// Ticks the track at this moment (milliseconds). Then each subscriber takes all its queued packets.
+    /// Ticks the track at the time `moment`, in milliseconds. Then each subscriber takes all its queued packets.
     pub fn tick(&mut self, moment: u64)
         ensures { (past : List Call) → IsStaged self.old past
             → IsStaged self.new (after_takes 3 (after_takes 2 (after_takes 1 (and_call past (call.Tick 1 moment))))) }

@@ -1,4 +1,4 @@
-//! Reads a frame's own distances, which take the place of its template's.
+//! Reads a frame's custom distances to its referenced frames. They replace the distances of its template.
 
 ghost use Rattle.dd_bits.specs.Reader.{bits_left};
 ghost use Rattle.dd_bits.specs.Sequences.{Gives};
@@ -10,7 +10,7 @@ use crate::parts::References;
 use crate::reading::fields::number;
 use dd_bits::BitReader;
 
-/// Reads the next distance, if there is one.
+/// Reads the next distance. Returns `None` if there are no more distances.
 #[tactic(auto, unfolding(crate::specs::Reading::next_distance_at))]
 fn next_distance(bits: &mut BitReader<'_>) -> Result<Option<u16>, DdFault>
     ensures { Gives (λ v. v) result bits.new (next_distance_at (bits_left bits.old)) }
@@ -23,7 +23,7 @@ fn next_distance(bits: &mut BitReader<'_>) -> Result<Option<u16>, DdFault>
     Ok(Some(less as u16 + 1))
 }
 
-/// Reads the distances, up to the code that ends them.
+/// Reads all distances, and also the code that ends them.
 pub fn distances(bits: &mut BitReader<'_>) -> Result<References, DdFault>
     ensures { Gives distances_in result bits.new (distances_at (bits_left bits.old)) }
 {

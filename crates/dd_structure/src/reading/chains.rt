@@ -51,8 +51,8 @@ pub fn fill_guards(
     fill_guard_list(bits, chains, guarded_targets(chains, targets), out)
 }
 
-/// Reads a link of `width` bits for each chain into `out`, which is overwritten. Returns `short` if there are too few bits. The reader may then
-/// have moved on, and `out` may have any links. Out of line: few frames have links of their own.
+/// Reads a link of `width` bits for each chain into `out`, which is overwritten. Returns `short` if there are too few bits. In that case the reader
+/// may have moved on, and the contents of `out` are unspecified. Out of line: few frames have links of their own.
 #[inline(never)]
 pub fn read_links_into<E: Copy>(
     bits: &mut BitReader<'_>,

@@ -15,8 +15,8 @@ fn indication<E: Copy>(bits: &mut BitReader<'_>, short: E) -> Result<Dti, E>
     Ok(Dti::from_code(code))
 }
 
-/// Reads an indication for each decode target into `out`, which is overwritten. Returns `short` if there are too few bits. The reader may then
-/// have moved on, and `out` may have any indications. Out of line: few frames have indications of their own.
+/// Reads an indication for each decode target into `out`, which is overwritten. Returns `short` if there are too few bits. In that case the reader
+/// may have moved on, and the contents of `out` are unspecified. Out of line: few frames have indications of their own.
 #[inline(never)]
 pub fn read_indications_into<E: Copy>(
     bits: &mut BitReader<'_>,

@@ -44,7 +44,7 @@ fn spatial_count(layers: &[Layer]) -> u8
     greatest + 1
 }
 
-fn told_resolutions(flag: u32, layers: &[Layer]) -> u8
+fn resolution_count(flag: u32, layers: &[Layer]) -> u8
     requires { greatest_spatial layers.now ≤ 3 }
     ensures value { result ≡ resolution_count flag layers.now }
     ensures few { result ≤ 4 }
@@ -62,7 +62,7 @@ pub fn resolutions(
     ensures { Gives resolutions_in result bits.new (resolutions_at layers.now (bits_left bits.old)) }
 {
     let flag = number(bits, 1)?;
-    let count = told_resolutions(flag, layers);
+    let count = resolution_count(flag, layers);
     let items = resolution_list(bits, count)?;
     Ok(Resolutions { count, items })
 }

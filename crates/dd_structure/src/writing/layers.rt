@@ -7,7 +7,7 @@ ghost use Rattle.dd_structure.specs.Spelling.{layer_code, layer_bits, layers_bit
 use crate::layer::Layer;
 use dd_bits::{BitWriter, NoRoom};
 
-/// The next_layer_idc between a template of layer `before` and the next template, of layer `layer`.
+/// The next_layer_idc after a template of layer `before` if the next template has layer `layer`.
 fn code_of(before: Layer, layer: Layer) -> u32
     ensures value { result ≡ layer_code before layer }
     ensures small { result < 3 }

@@ -23,7 +23,7 @@ fn put_resolution_list(out: &mut BitWriter, resolutions: &[(u32, u32)]) -> Resul
     Ok(())
 }
 
-/// Appends the flag and, if the structure has resolutions, the resolution of each spatial id.
+/// Appends the flag resolutions_present_flag. If the structure has resolutions, also appends the resolution of each spatial id.
 pub fn put_resolutions(out: &mut BitWriter, resolutions: &[(u32, u32)]) -> Result<(), NoRoom>
     requires { All IsResolution resolutions.now }
     ensures { Puts result out.old out.new (resolutions_bits resolutions.now) }

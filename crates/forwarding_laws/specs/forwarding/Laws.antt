@@ -17,7 +17,7 @@ use Rattle.forwarding_model.specs.forwarding.Standing.{standing, passes_at}
 use Rattle.forwarding_model.specs.frames.TrackFrames.{IsOneTrack}
 use Rattle.forwarding_model.specs.forwarding.Decodable.{IsDecodable, of_epoch}
 use Rattle.forwarding_laws.specs.forwarding.Restart.{BreaksAt, IsOpenAndLinked, IsRestart}
-use Rattle.forwarding_model.specs.forwarding.Causes.{is_ahead, is_too_old, oldest_asked, cause, path, IsPath, IsWithheld, TellsCauses}
+use Rattle.forwarding_model.specs.forwarding.Causes.{is_ahead, is_too_old, oldest_asked, cause, path, IsPath, IsWithheld, HaveCauses}
 use Rattle.forwarding_model.specs.forwarding.Outgoing.{Sender, Subscriber, outgoing, queue, kept, next_packet, resent, send_marked, AreConsecutive, FindPackets, KeepsCount}
 use Rattle.forwarding_model.specs.frames.Reading.{Format}
 use Rattle.forwarding_laws.specs.frames.WholeFrames.{IsWholeFrame, IsSentWhole, KeepsWhole}
@@ -68,8 +68,8 @@ abbrev pub AheadIsAbove : Type 0
 AheadIsAbove = (newest n : ℕ) → (is_ahead (Some newest) n ≡ true → newest < n) × (is_ahead (Some newest) n ≡ false → n ≤ newest)
 
 -- each step of a path has the cause of its number
-abbrev pub PathsTellCauses : Type 0 → Type 0
-PathsTellCauses S = (wish : Wish) (events : List (Event S)) (n : ℕ) → TellsCauses (cause wish events) (path (cause wish events) n)
+abbrev pub PathsHaveCauses : Type 0 → Type 0
+PathsHaveCauses S = (wish : Wish) (events : List (Event S)) (n : ℕ) → HaveCauses (cause wish events) (path (cause wish events) n)
 
 -- outgoing sequence numbers are consecutive modulo 65,536
 abbrev pub AreNumberedInOrder : Type 0 → Type 0

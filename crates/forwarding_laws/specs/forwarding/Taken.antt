@@ -40,8 +40,8 @@ OldestIsKept S = (send : Sender S) (subscriber : Subscriber) (events : List (Eve
     → (oldest_number send subscriber events + length (kept send subscriber events)) % 65536 ≡ next_number send subscriber events
 
 -- the oldest number is that of the oldest packet that is kept, or, if none is kept, the next number
-abbrev pub OldestIsTold : Type 0 → Type 0
-OldestIsTold S = (send : Sender S) (subscriber : Subscriber) (events : List (Event S))
+abbrev pub OldestIsReported : Type 0 → Type 0
+OldestIsReported S = (send : Sender S) (subscriber : Subscriber) (events : List (Event S))
     → (kept send subscriber events ≡ [] → oldest_number send subscriber events ≡ next_number send subscriber events)
     × ((packet : Packet) (packets : List Packet) → kept send subscriber events ≡ packet ∷ packets
     → oldest_number send subscriber events ≡ packet.sequence_number)

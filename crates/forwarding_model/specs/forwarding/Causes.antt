@@ -134,5 +134,5 @@ IsPath [] = ⊥
 IsPath (step ∷ rest) = IsPathFrom step rest
 
 -- each step's verdict is the cause of its number
-abbrev pub TellsCauses : (ℕ → Verdict) → List Step → Type 0
-TellsCauses causes steps = AllByRecursion (λ step. step.verdict ≡ causes step.number) steps
+abbrev pub HaveCauses : (ℕ → Verdict) → List Step → Type 0
+HaveCauses causes steps = AllByRecursion (λ step. step.verdict ≡ causes step.number) steps

@@ -91,14 +91,14 @@ is_present_in f (Open target opened) = is_present f target
 is_present_in f (Closed reason) = false
 
 -- the queue of a subscriber contains at most 512 packets
-abbrev pub has_room : ℕ → ℕ → Bool
-has_room queued packets = nat_le (queued + packets) 512
+abbrev pub has_capacity : ℕ → ℕ → Bool
+has_capacity queued packets = nat_le (queued + packets) 512
 
 -- The rule on passing: f passes exactly when there is a candidate, f is present in it, all its references were passed, and the queue has space.
 abbrev pub passes : (ℕ → Bool) → Bool → Wish → FrameMeaning → CurrentTarget → ℕ → ℕ → Bool
 passes has key_passed wish f current queued packets =
     is_present_in f (candidate has key_passed wish f current)
-    && (is_nothing (missing_reference has f) && has_room queued packets)
+    && (is_nothing (missing_reference has f) && has_capacity queued packets)
 
 -- ---- the verdict
 
@@ -113,7 +113,7 @@ reason_verdict (NotOpened since) = Unopened since
 
 -- the verdict for an open candidate is passed or full; for a closed one, it is the target's reason
 abbrev pub candidate_verdict : ℕ → ℕ → CurrentTarget → Verdict
-candidate_verdict queued packets (Open target opened) = if has_room queued packets then Passed else Full queued packets
+candidate_verdict queued packets (Open target opened) = if has_capacity queued packets then Passed else Full queued packets
 candidate_verdict queued packets (Closed reason) = reason_verdict reason
 
 -- A reference that wasn't passed decides first. Its verdict is `Behind` if the reference lies below the epoch's start.

@@ -3,7 +3,7 @@ ghost use Rattle.std.specs.Prelude.{◌≡◌, ◌++◌, ◌∷◌, [], OnOk};
 
 use sfu_base::NoMemory;
 
-/// Appends an item. On `NoMemory` the list may have changed.
+/// Appends an item. If this returns `NoMemory`, the list may have changed.
 pub fn put_last<T: Drop>(list: &mut Vec<T>, item: T) -> Result<(), NoMemory>
     ensures { OnOk result (list.new.items ≡ list.old.items ++ item ∷ []) }
 {
@@ -13,7 +13,7 @@ pub fn put_last<T: Drop>(list: &mut Vec<T>, item: T) -> Result<(), NoMemory>
     }
 }
 
-/// Appends all items.
+/// Appends all of `items` to `list`, in order.
 pub fn put_all<T: Drop>(list: &mut Vec<T>, mut items: Vec<T>) -> Result<(), NoMemory>
     ensures { OnOk result (list.new.items ≡ list.old.items ++ items.items) }
 {

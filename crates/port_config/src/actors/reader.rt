@@ -12,10 +12,10 @@ use sfu_driver::{Ending, Halt, Judge};
 use sfu_script::{NoLine, is_skipped, read_actor_line, read_call};
 use std::alloc::Global;
 
-/// The greatest line number in a script.
+/// A script has at most this many lines.
 const MOST_LINES: u32 = 100_000;
 
-/// Collects the calls of a script's lines, in a list for each actor.
+/// Collects the calls of a script's lines: one list for each actor, one for the opening part, and one for the closing part.
 #[derive(Drop)]
 pub struct ActorsReader {
     opening: Vec<Call>,
@@ -25,7 +25,7 @@ pub struct ActorsReader {
 }
 
 impl ActorsReader {
-    /// Returns a reader that has read no line.
+    /// Returns a reader that hasn't read any line yet.
     pub fn new(alloc: Global) -> ActorsReader
         ensures { Holds result [] }
     {

@@ -10,15 +10,16 @@ use script_texts::{Entry, Journal, wants_memory, write_reply};
 use sfu_base::{Blob, Call, NoMemory, Reply, Scratch};
 use std::alloc::Global;
 
-/// A turn's place in the history, and its entry in the journal.
+/// A turn of an actor: the turn's place in the history, and the turn's entry in the journal.
 #[derive(Drop)]
 pub struct Placed {
     pub place: u64,
     pub entry: Entry,
 }
 
-/// Returns the journal's entry for a call with this reply. Returns `NoMemory` if the reply says that memory ran out, or if it runs out here.
-pub fn told(
+/// Returns the journal's entry for this call and its reply. Returns `NoMemory` in two cases: the reply says that memory ran out, or this function runs out
+/// of memory.
+pub fn journal_entry(
     alloc: Global,
     actor: u8,
     call: &Call,
@@ -53,7 +54,7 @@ fn entries(alloc: Global, kept: Vec<Placed>) -> Result<Vec<Entry>, NoMemory>
     Ok(entries)
 }
 
-/// Returns the journal of the collected turns, in the order of their places.
+/// Returns the journal of the collected turns. The entries are in the order of the turns' places.
 pub fn in_order(alloc: Global, mut kept: Vec<Placed>) -> Result<Journal, NoMemory>
     ensures { IfOk result (λ journal. (all : List Placed) → IsPermutation all kept.items → AtPlaces 0 all → journal ≡ map (λ turn. turn.entry) all) }
 {

@@ -8,7 +8,7 @@ use script_texts::{Journal, write_entry};
 use sfu_base::{Blob, NoMemory};
 use std::alloc::Global;
 
-/// Returns the two lines of each entry, in the order of the entries.
+/// Returns the text of the journal: two lines for each entry, in the order of the entries.
 pub fn text_of(alloc: Global, journal: &Journal) -> Result<Blob, NoMemory>
     requires { All (λ entry. HasBytes entry.call) journal.now }
     ensures { IfOk result (λ text. text ≡ flat_map entry_text journal.now) }

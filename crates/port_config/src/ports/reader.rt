@@ -24,14 +24,14 @@ enum ServeLine {
     Port(PortLine),
 }
 
-/// The calls to make first, and the ports to serve.
+/// The calls to make before any session starts, and the ports to serve.
 #[derive(Drop)]
 pub struct Served {
     pub calls: Calls,
     pub ports: Vec<PortLine>,
 }
 
-/// Collects the calls and the ports of a configuration's lines in two lists.
+/// Collects a configuration's calls in one list and its ports in another.
 #[derive(Drop)]
 pub struct ServeReader {
     calls: Vec<Call>,
@@ -39,7 +39,7 @@ pub struct ServeReader {
 }
 
 impl ServeReader {
-    /// Returns a reader that has read no line.
+    /// Returns a reader that hasn't read any line yet.
     pub fn new(alloc: Global) -> ServeReader
         ensures { Holds result nothing_said }
     {

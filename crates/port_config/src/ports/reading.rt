@@ -9,8 +9,9 @@ use sfu_base::{Sink, Source};
 use sfu_driver::Status;
 use std::alloc::Global;
 
-/// Reads the calls and the ports from the source's lines. If line N is outside the grammar, writes `line N`; otherwise writes nothing.
-/// An error is the command's status: 5 if a line is outside the grammar, 3 if the source can't be read, 6 if memory runs out.
+/// Reads the calls and the ports from the source's lines. If a line is outside the grammar, writes `line N` for the first such line; N is its number.
+/// Otherwise writes nothing. On an error, returns the command's status: 3 if the source can't be read, 5 if a line is outside the grammar, 6 if memory runs
+/// out.
 pub fn read_served<S: Source, K: Sink>(
     alloc: Global,
     source: &mut S,

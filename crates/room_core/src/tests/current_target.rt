@@ -67,11 +67,11 @@ fn a_raised_wish_is_reached_by_a_key_frame(rt: HostRuntime) {
     ] {
         assert_eq!(rt; room.serve(0, &call, &mut scratch), Reply::Done, "{call:?}");
         assert_eq!(rt; room.target_of(1), target, "{call:?}");
-        let told = match target {
+        let reported = match target {
             Ok(_) => Ok(reached),
             Err(why) => Err(why),
         };
-        assert_eq!(rt; room.reaches_wish(1), told, "{call:?}");
+        assert_eq!(rt; room.reaches_wish(1), reported, "{call:?}");
     }
 }
 

@@ -55,7 +55,7 @@ fn check(rt: &impl Abort, room: &mut Room<KeepNone>, wish: Wish, row: &[Row<'_>]
 }
 
 #[test]
-fn a_frames_first_packet_tells_the_targets(rt: HostRuntime) {
+fn a_frames_first_packet_carries_the_targets(rt: HostRuntime) {
     let rows: [(Wish, &[Row<'_>]); 7] = [
         // A key frame is followed by a frame with neither structure nor mask.
         (

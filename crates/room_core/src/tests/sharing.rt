@@ -16,7 +16,7 @@ fn free(room: &Room<KeepNone>, track: u32) -> usize {
 }
 
 #[test]
-fn subscribers_share_a_packet_and_its_room_is_free_when_none_has_it(
+fn subscribers_share_a_packet_and_its_buffer_is_free_when_none_has_it(
     rt: HostRuntime,
 ) -> Result<(), Fail> {
     let mut room = Room::new(rt.alloc(), KeepNone);
@@ -31,7 +31,7 @@ fn subscribers_share_a_packet_and_its_room_is_free_when_none_has_it(
     ] {
         assert_eq!(rt; room.serve(0, &call, &mut out), Reply::Done);
     }
-    assert_eq!(rt; free(&room, 1), 640 + 2 * 256 + 2 * 12 - 1);
+    assert_eq!(rt; free(&room, 1), 128 - 1);
     for subscriber in 1..3u32 {
         assert_eq!(rt; room.serve(0, &take(subscriber), &mut out), Reply::Packet);
         assert_eq!(rt; out.packet.bytes(), outgoing(&PLAIN, 7, false).bytes());
@@ -54,6 +54,36 @@ fn subscribers_share_a_packet_and_its_room_is_free_when_none_has_it(
 }
 
 #[test]
+fn packets_are_copied_while_no_buffer_is_free(rt: HostRuntime) -> Result<(), Fail> {
+    let mut room = Room::new(rt.alloc(), KeepNone);
+    let mut out = scratch();
+    for call in [
+        publish(1, Kind::Plain),
+        join(1, 1, LOWEST),
+        join(2, 1, LOWEST),
+    ] {
+        assert_eq!(rt; room.serve(0, &call, &mut out), Reply::Done);
+    }
+    let mut next = PLAIN;
+    for number in 1..141u8 {
+        next[3] = number;
+        assert_eq!(rt; room.serve(0, &packet(1, &next), &mut out), Reply::Done);
+    }
+    assert_eq!(rt; free(&room, 1), 0);
+    for number in 1..141u8 {
+        next[3] = number;
+        for subscriber in 1..3u32 {
+            assert_eq!(rt; room.serve(0, &take(subscriber), &mut out), Reply::Packet);
+            assert_eq!(rt;
+                out.packet.bytes(),
+                outgoing(&next, 6 + u16::from(number), false).bytes()
+            );
+        }
+    }
+    Ok(())
+}
+
+#[test]
 fn a_first_packet_is_stored_once_for_each_mask(rt: HostRuntime) -> Result<(), Fail> {
     let mut room = Room::new(rt.alloc(), KeepNone);
     let mut out = scratch();
@@ -67,12 +97,12 @@ fn a_first_packet_is_stored_once_for_each_mask(rt: HostRuntime) -> Result<(), Fa
         assert_eq!(rt; room.serve(0, &call, &mut out), Reply::Done);
     }
     // Three buffers are used: one for the packet as it arrived, and one for the packet with each of two masks.
-    assert_eq!(rt; free(&room, 1), 640 + 3 * 256 + 3 * 12 - 3);
+    assert_eq!(rt; free(&room, 1), 2 * 128 - 3);
     Ok(())
 }
 
 #[test]
-fn a_packet_that_tells_nothing_is_stored_once(rt: HostRuntime) -> Result<(), Fail> {
+fn a_packet_without_a_mask_is_stored_once(rt: HostRuntime) -> Result<(), Fail> {
     let mut room = Room::new(rt.alloc(), KeepNone);
     let mut out = scratch();
     for call in [
@@ -86,6 +116,6 @@ fn a_packet_that_tells_nothing_is_stored_once(rt: HostRuntime) -> Result<(), Fai
     }
     // Two buffers are used: one for the key frame's packet with its mask, and one for the packet of frame 1. Both packets are still queued for both
     // subscribers.
-    assert_eq!(rt; free(&room, 1), 640 + 2 * 256 + 2 * 12 - 2);
+    assert_eq!(rt; free(&room, 1), 128 - 2);
     Ok(())
 }

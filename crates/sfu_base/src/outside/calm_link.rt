@@ -5,7 +5,7 @@ ghost use Rattle.sfu_base.specs.Links.{FillsOnlyWhere, after_receive, after_send
 
 use crate::{Failed, Link, PacketBuf};
 
-/// A link that never receives a datagram. The link accepts every datagram that is to be sent, and discards it. It takes no memory.
+/// A link that never receives a datagram. The link accepts every datagram that is to be sent, and discards it. It allocates no memory.
 #[derive(Drop)]
 pub struct CalmLink {
     name: u64,
@@ -14,16 +14,16 @@ pub struct CalmLink {
 impl CalmLink {
     /// A link that never fails.
     pub fn new() -> Self
-        ensures told { ⟦<CalmLink as Link>⟧.told result ≡ None }
+        ensures traffic { ⟦<CalmLink as Link>⟧.traffic result ≡ None }
         ensures faults { ⟦<CalmLink as Link>⟧.faults result ≡ 0 }
         ensures name { ⟦<CalmLink as Link>⟧.name result ≡ 0 }
     {
         CalmLink { name: 0 }
     }
 
-    /// A link that never fails and has this name. The name is the number of links that its ports bound before it.
+    /// A link that never fails and has this name. The name is the number of links that the same [`Ports`](crate::Ports) bound before this link.
     pub fn named(name: u64) -> Self
-        ensures told { ⟦<CalmLink as Link>⟧.told result ≡ None }
+        ensures traffic { ⟦<CalmLink as Link>⟧.traffic result ≡ None }
         ensures faults { ⟦<CalmLink as Link>⟧.faults result ≡ 0 }
         ensures name { ⟦<CalmLink as Link>⟧.name result ≡ name }
     {
@@ -34,7 +34,7 @@ impl CalmLink {
 impl Default for CalmLink {
     /// A link that never fails.
     fn default() -> CalmLink
-        ensures told { ⟦<CalmLink as Link>⟧.told result ≡ None }
+        ensures traffic { ⟦<CalmLink as Link>⟧.traffic result ≡ None }
         ensures faults { ⟦<CalmLink as Link>⟧.faults result ≡ 0 }
         ensures name { ⟦<CalmLink as Link>⟧.name result ≡ 0 }
     {
@@ -43,7 +43,7 @@ impl Default for CalmLink {
 }
 
 impl Link for CalmLink {
-    ghost told = { λ _. None };
+    ghost traffic = { λ _. None };
 
     ghost name = { λ s. s.name };
 
@@ -52,7 +52,7 @@ impl Link for CalmLink {
     /// Always `Ok(false)`.
     fn receive(&mut self, buf: &mut PacketBuf) -> Result<bool, Failed>
         ensures buffer { FillsOnlyWhere result buf.old buf.new }
-        ensures told { None ≡ after_receive result buf.new None }
+        ensures traffic { None ≡ after_receive result buf.new None }
         ensures name { self.new.name ≡ self.old.name }
         ensures cause { HasCause 0 0 result }
 

@@ -6,7 +6,7 @@ use crate::outside::ports::PORT_LIMIT;
 use crate::{Address, CalmLink, Failed, NoMemory, Ports};
 use std::alloc::Global;
 
-/// Ports whose binds return links that never fail. `new` reserves capacity for all links that come back, so no later call allocates memory.
+/// Binds links that never fail, and never fails itself. `new` reserves capacity for all links that come back, so no later call allocates memory.
 #[derive(Drop)]
 pub struct CalmPorts {
     returned: Vec<CalmLink>,
@@ -17,7 +17,7 @@ pub struct CalmPorts {
 }
 
 impl CalmPorts {
-    /// Ports of which none is bound yet. Returns `NoMemory` if the capacity can't be reserved.
+    /// Ports before the first bind. Returns `NoMemory` if the capacity can't be reserved.
     pub fn new(alloc: Global) -> Result<Self, NoMemory>
         ensures returned { IfOk result (λ ports. ⟦<CalmPorts as Ports>⟧.returned ports ≡ Some []) }
         ensures bound { IfOk result (λ ports. ⟦<CalmPorts as Ports>⟧.bound ports ≡ 0) }

@@ -7,7 +7,8 @@ pub trait Clock {
     fn now(&self) -> u64;
 }
 
-/// A clock for tests. Its first call returns the start moment, and each later call, from any thread, returns one step more than the call before, modulo 2^64.
+/// A clock for tests. Its first call returns the start moment. Each later call, from any thread, returns one step more than the call before it,
+/// modulo 2^64.
 #[derive(Drop)]
 pub struct StepClock {
     moment: AtomicU64,

@@ -8,9 +8,10 @@ use crate::{Failed, Link, PacketBuf};
 use std::alloc::Global;
 use std::marker::Model;
 
-/// A link in memory that receives its prepared datagrams in order and keeps the datagrams that are sent. Two lists have the numbers, counted
-/// from 0, of the receives and of the sends that fail. A send that runs out of memory fails too. Contracts see the remaining prepared
-/// datagrams, the traffic, the name, and the count of faults. Contracts also see both lists, and the numbers of receives and of sends made.
+/// A link in memory that receives its prepared datagrams in order and keeps the datagrams that are sent. One list has the numbers of the receives
+/// that fail, another the numbers of the sends that fail, each counted from 0. A send that runs out of memory fails too. Contracts see the remaining
+/// prepared datagrams, the traffic, the name, and the count of faults. Contracts also see both lists, and how many receives and how many sends were
+/// made.
 #[derive(Drop)]
 pub struct MemLink {
     prepared: Vec<PacketBuf>,
@@ -46,7 +47,8 @@ impl Model for MemLink {
 }
 
 impl MemLink {
-    /// A link that receives these datagrams. The two lists have the numbers, counted from 0, of the receives and of the sends that fail.
+    /// A link that receives these datagrams. `receive_fails` has the numbers of the receives that fail, and `send_fails` those of the sends that
+    /// fail, each counted from 0.
     pub fn new(
         alloc: Global,
         prepared: Vec<PacketBuf>,
@@ -69,7 +71,7 @@ impl MemLink {
         }
     }
 
-    /// The same link with this name. The name is the number of links that its ports bound before it.
+    /// The same link with this name. The name is the number of links that the same [`Ports`](crate::Ports) bound before this link.
     pub fn named(self, name: u64) -> Self
         ensures { result ≡ record self { name = name } }
     {
@@ -83,7 +85,7 @@ impl MemLink {
         &self.sent
     }
 
-    /// How many calls have failed, at most 2^64 - 1.
+    /// How many calls have failed. The count stops at 2^64 - 1.
     pub fn faults(&self) -> u64
         ensures { result ≡ self.now.faults }
     {
@@ -110,17 +112,17 @@ fn give_next(prepared: &[PacketBuf], place: &mut usize, buf: &mut PacketBuf) -> 
 }
 
 impl Link for MemLink {
-    ghost told = { λ s. Some s.traffic };
+    ghost traffic = { λ s. Some s.traffic };
 
     ghost name = { λ s. s.name };
 
     ghost faults = { λ s. s.faults };
 
-    /// Fails exactly when the call's number is in the list for receives. Any other call receives the next datagram or, exactly if none is left,
-    /// returns `Ok(false)`.
+    /// Fails exactly when the call's number is in the list for receives. Any other call receives the next prepared datagram. If none is left, and
+    /// only then, the call returns `Ok(false)`.
     fn receive(&mut self, buf: &mut PacketBuf) -> Result<bool, Failed>
         ensures buffer { FillsOnlyWhere result buf.old buf.new }
-        ensures told { Some self.new.traffic ≡ after_receive result buf.new (Some self.old.traffic) }
+        ensures traffic { Some self.new.traffic ≡ after_receive result buf.new (Some self.old.traffic) }
         ensures name { self.new.name ≡ self.old.name }
         ensures cause { HasCause self.old.faults self.new.faults result }
 
@@ -140,10 +142,10 @@ impl Link for MemLink {
         Ok(came)
     }
 
-    /// Fails if the call's number is in the list for sends. May fail at any other call too, for example when memory runs out. If it doesn't
-    /// fail, it keeps the datagram.
+    /// A call whose number is in the list for sends fails. Any other call may fail too, for example when memory runs out. A call that doesn't fail
+    /// keeps the datagram.
     fn send(&mut self, packet: &PacketBuf) -> Result<(), Failed>
-        ensures told { Some self.new.traffic ≡ after_send result packet.now (Some self.old.traffic) }
+        ensures traffic { Some self.new.traffic ≡ after_send result packet.now (Some self.old.traffic) }
         ensures name { self.new.name ≡ self.old.name }
         ensures cause { HasCause self.old.faults self.new.faults result }
 

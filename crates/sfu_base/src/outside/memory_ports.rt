@@ -2,17 +2,17 @@
 ghost use Rattle.std.specs.Prelude.{◌≡◌, ◌+◌, ◌<◌, ◌≤◌, ◌↔◌, [], All, Some, IsErr, IsTrue, IfOk, OnOk, OnErr, drop, length};
 ghost use Rattle.sfu_base.specs.Faults.{HasCause};
 ghost use Rattle.sfu_base.specs.Links.{IsFresh, is_listed};
-ghost use Rattle.sfu_base.specs.Ports.{CountsBack, after_back, after_bind, bound_one, came_back, failed_bind, first_link, next_link, tells_nothing_yet};
+ghost use Rattle.sfu_base.specs.Ports.{CountsBack, after_back, after_bind, bound_one, came_back, failed_bind, first_link, next_link, has_no_traffic_yet};
 
 use crate::outside::ports::PORT_LIMIT;
 use crate::{Address, Failed, MemLink, NoMemory, Ports};
 use std::alloc::Global;
 use std::marker::Model;
 
-/// Ports in memory. Binds return the prepared links in order. After the last of these, they return links without prepared datagrams. A link's
-/// name is the number of links bound before it. A bind fails if its number, counted from 0, is in a list. `new` reserves capacity for all links
-/// that come back, so no later call allocates memory. Contracts see the remaining prepared links, the links that came back, and the list of
-/// failing binds. Contracts also see the number of binds made, the number of ports bound, and the count of faults.
+/// Ports in memory. Binds return the prepared links in order. Once all of these are bound, each further bind returns a link without prepared
+/// datagrams. A link's name is the number of links bound before it. A bind fails if its number, counted from 0, is in a list. `new` reserves capacity
+/// for all links that come back, so no later call allocates memory. Contracts see the remaining prepared links, the links that came back, and the
+/// list of failing binds. Contracts also see the number of binds made, the number of ports bound, and the count of faults.
 #[derive(Drop)]
 pub struct MemPorts {
     alloc: Global,
@@ -28,7 +28,7 @@ impl Model for MemPorts {
     ghost use Rattle.std.specs.Prelude.{All, vec_len};
     ghost use Rattle.std.specs.Vec.{vec_capacity};
     ghost use Rattle.sfu_base.specs.Links.{IsFresh};
-    ghost use Rattle.sfu_base.specs.Ports.{PortsInMemory, HaveRoom};
+    ghost use Rattle.sfu_base.specs.Ports.{PortsInMemory, HaveCapacity};
 
     ghost Value = { PortsInMemory };
 
@@ -41,12 +41,12 @@ impl Model for MemPorts {
       faults = s.faults;
     } };
 
-    ghost invariant = { λ s. HaveRoom (vec_len s.returned) s.bound (vec_capacity s.returned) × All IsFresh s.prepared.items };
+    ghost invariant = { λ s. HaveCapacity (vec_len s.returned) s.bound (vec_capacity s.returned) × All IsFresh s.prepared.items };
 }
 
 impl MemPorts {
-    /// Ports whose binds return these links. No call may have been made on the links yet. The binds with a number in `bind_fails`, counted from
-    /// 0, fail. Returns `NoMemory` if the capacity can't be reserved.
+    /// Ports whose binds return these links in order. No call may have been made on the links yet. A bind fails if its number, counted from 0, is in
+    /// `bind_fails`. Returns `NoMemory` if the capacity can't be reserved.
     pub fn new(alloc: Global, links: Vec<MemLink>, bind_fails: Vec<u64>) -> Result<Self, NoMemory>
         requires { All IsFresh links.items }
         ensures { IfOk result (λ ports. ports ≡ record {
@@ -102,15 +102,15 @@ impl Ports for MemPorts {
 
     ghost faults = { λ s. s.faults };
 
-    /// Fails exactly when the call's number is in the list. Any other call returns the next prepared link, or a link without prepared datagrams if
-    /// none is left.
+    /// Fails exactly when the call's number is in the list. Any other call returns the next prepared link. If none is left, it returns a link without
+    /// prepared datagrams.
     fn bind(&mut self, _local: Address, _peer: Address) -> Result<MemLink, Failed>
         requires { self.old.bound < 64 }
         ensures bound { self.new.bound ≡ after_bind result self.old.bound }
         ensures back_count { length self.new.returned ≡ length self.old.returned }
         ensures returned { Some self.new.returned ≡ Some self.old.returned }
         ensures quiet { IfOk result (λ port. port.faults ≡ 0) }
-        ensures silent { IfOk result (λ port. tells_nothing_yet (Some port.traffic)) }
+        ensures silent { IfOk result (λ port. has_no_traffic_yet (Some port.traffic)) }
         ensures name { IfOk result (λ port. port.name ≡ self.old.bound) }
         ensures cause { HasCause self.old.faults self.new.faults result }
 
@@ -130,7 +130,7 @@ impl Ports for MemPorts {
         Ok(link)
     }
 
-    /// Keeps the port, and counts one fault if the port has one or more.
+    /// Keeps the port. If the port has faults of its own, however many, counts one fault.
     fn back(&mut self, port: MemLink)
         requires { length self.old.returned < self.old.bound }
         ensures bound { self.new.bound ≡ self.old.bound }

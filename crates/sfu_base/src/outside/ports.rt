@@ -1,7 +1,7 @@
 // Binds links, and takes them back after use (own rule).
 ghost use Rattle.std.specs.Prelude.{◌≡◌, ◌+◌, ◌<◌, ◌≤◌, ℕ, List, Option, IfOk, IsOk, OnErr};
 ghost use Rattle.sfu_base.specs.Faults.{HasCause};
-ghost use Rattle.sfu_base.specs.Ports.{CountsBack, after_back, after_bind, tells_nothing_yet};
+ghost use Rattle.sfu_base.specs.Ports.{CountsBack, after_back, after_bind, has_no_traffic_yet};
 
 use crate::{Address, Failed, Link};
 
@@ -22,7 +22,7 @@ pub trait Ports {
     /// How many ports came back.
     ghost back_count: { Self → ℕ };
 
-    /// The number of failed binds, plus the number of ports that came back with faults of their own, at most 2^64 - 1.
+    /// The number of failed binds, plus the number of ports that came back with faults of their own. The count stops at 2^64 - 1.
     ghost faults: { Self → ℕ };
 
     /// Binds a port to the local address. The port sends to the peer, and receives only from the peer. The port has no faults and no recorded
@@ -33,7 +33,7 @@ pub trait Ports {
         ensures back_count { back_count self.new ≡ back_count self.old }
         ensures returned { returned self.new ≡ returned self.old }
         ensures quiet { IfOk result (λ port. Self.Port.faults port ≡ 0) }
-        ensures silent { IfOk result (λ port. tells_nothing_yet (Self.Port.told port)) }
+        ensures silent { IfOk result (λ port. has_no_traffic_yet (Self.Port.traffic port)) }
         ensures name { IfOk result (λ port. Self.Port.name port ≡ bound self.old) }
         ensures cause { HasCause (faults self.old) (faults self.new) result };
 
@@ -45,7 +45,7 @@ pub trait Ports {
         ensures returned { returned self.new ≡ after_back port (returned self.old) }
         ensures cause { CountsBack (Self.Port.faults port) (faults self.old) (faults self.new) };
 
-    /// A lemma, which does nothing at run time: no more ports came back than were bound.
+    /// A lemma: no more ports came back than were bound. The call does nothing at run time.
     fn lemma_were_bound(&self)
         ensures { back_count self.now ≤ bound self.now };
 }

@@ -9,7 +9,7 @@ use sfu_base::{Sink, Source};
 use sfu_driver::{Lines, Status, Units, answer};
 use std::alloc::Global;
 
-/// Runs a script whose lines may also be calls on bundles: serves each line, and writes a line for each reply. Returns the status.
+/// Runs a script, in which calls on bundles are allowed too: serves each line, and writes a line for each reply. Returns the status.
 pub fn run_with_bundles<S: Source, K: Sink>(alloc: Global, source: &mut S, sink: &mut K) -> Status
     ensures simulcasts { Simulcasts (exchange_of S.left S.faults K.written K.faults source.old source.new sink.old sink.new) (number_of result) }
     ensures only { IsSimulcastStatus (number_of result) }

@@ -4,7 +4,7 @@ ghost use Rattle.sfu_base.specs.Answer.{answer_of, is_starved};
 ghost use Rattle.script_texts.specs.Replies.{answer_text};
 ghost use Rattle.script_texts.specs.WholeLines.{fault_line};
 ghost use Rattle.sfu_driver.specs.declared.halt.Halt.TheVariants.{Starved};
-ghost use Rattle.script_run.specs.Run.{untold};
+ghost use Rattle.script_run.specs.Run.{unrecorded};
 ghost use Rattle.simulcast.specs.Answers.{bundle_made, bundle_pumped, leg_chosen, packet_drawn, packet_redrawn, room_called};
 ghost use Rattle.simulcast.specs.Bundles.{Simulcast, StandsFor, nothing_made};
 ghost use Rattle.simulcast.specs.Made.{just_made};
@@ -12,18 +12,18 @@ ghost use Rattle.bundle_lines.specs.Lines.{HasLegs};
 ghost use Rattle.bundle_lines.specs.Replies.{bundle_reply_text};
 ghost use Rattle.sfu_program.specs.Simulcast.{bundle_served};
 ghost use Rattle.sfu_program.specs.SimulcastServing.{ServesLine};
-ghost use Rattle.sfu_program.specs.SimulcastTexts.{done_text, fault_text, line_told, packet_text, pumped_text, told};
+ghost use Rattle.sfu_program.specs.SimulcastTexts.{done_text, fault_text, line_replied, packet_text, pumped_text, replied};
 
 use bundle_lines::{BundleLine, BundleReply, add_bundle_reply, read_bundle_line};
 use room_core::{KeepNone, Room};
 use script_texts::{add_fault, add_reply, wants_memory};
-use sfu_base::{Blob, Call, NoMemory, PacketBuf, Refusal, Reply, Scratch, SeqList};
+use sfu_base::{Blob, Call, NoMemory, Refusal, Reply, Scratch};
 use sfu_driver::{Ending, Halt, Judge};
 use sfu_script::is_skipped;
 use simulcast::{BundleFault, Bundles};
 use std::alloc::Global;
 
-/// Serves each line of a script as seat 0, on a room with bundles whose recorder stores nothing.
+/// Serves the lines of a script, each as a call from seat 0. The server's room has bundles, and the room's recorder stores nothing.
 #[derive(Drop)]
 pub struct BundleServer {
     pub bundles: Bundles<KeepNone>,
@@ -33,14 +33,11 @@ pub struct BundleServer {
 impl BundleServer {
     /// Returns a server that has served nothing.
     pub fn new(alloc: Global) -> BundleServer
-        ensures { StandsFor untold result.bundles (nothing_made []) }
+        ensures { StandsFor unrecorded result.bundles (nothing_made []) }
     {
         BundleServer {
             bundles: Bundles::new(alloc, Room::new(alloc, KeepNone::new())),
-            scratch: Scratch {
-                packet: PacketBuf::new(),
-                names: SeqList::new(),
-            },
+            scratch: Scratch::new(),
         }
     }
 
@@ -75,16 +72,16 @@ impl BundleServer {
                 self.answer(&Reply::Refused(Refusal::TooMany { live }), ready)
             }
             BundleFault::Room(why) => self.answer(&Reply::Refused(why), ready),
-            BundleFault::NoBundle => tell(BundleReply::NoBundle, ready),
-            BundleFault::NoLeg { legs } => tell(BundleReply::NoLeg { legs }, ready),
-            BundleFault::WrongKind => tell(BundleReply::WrongKind, ready),
-            BundleFault::Bound { bundle } => tell(BundleReply::Bound { bundle }, ready),
+            BundleFault::NoBundle => reply_with(BundleReply::NoBundle, ready),
+            BundleFault::NoLeg { legs } => reply_with(BundleReply::NoLeg { legs }, ready),
+            BundleFault::WrongKind => reply_with(BundleReply::WrongKind, ready),
+            BundleFault::Bound { bundle } => reply_with(BundleReply::Bound { bundle }, ready),
             BundleFault::NoMemory => Err(Halt::Starved),
         }
     }
 
     fn call(&mut self, call: &Call, ready: &mut Blob) -> Result<(), Halt>
-        ensures { ServesLine (λ h. told answer_text (room_called call.now h)) self.old self.new ready.old ready.new result }
+        ensures { ServesLine (λ h. replied answer_text (room_called call.now h)) self.old self.new ready.old ready.new result }
     {
         match self.bundles.call(0, call, &mut self.scratch) {
             Ok(reply) => self.answer(&reply, ready),
@@ -103,7 +100,7 @@ impl BundleServer {
     ) -> Result<(), Halt>
         requires two { 2 ≤ length legs.now }
         requires three { length legs.now ≤ 3 }
-        ensures { ServesLine (λ h. told done_text (bundle_made (just_made number id ssrc first legs.now) h)) self.old self.new ready.old ready.new result }
+        ensures { ServesLine (λ h. replied done_text (bundle_made (just_made number id ssrc first legs.now) h)) self.old self.new ready.old ready.new result }
     {
         match self.bundles.bundle(number, id, ssrc, first, legs) {
             Ok(()) => self.answer(&Reply::Done, ready),
@@ -112,7 +109,7 @@ impl BundleServer {
     }
 
     fn choose(&mut self, number: u32, leg: u8, ready: &mut Blob) -> Result<(), Halt>
-        ensures { ServesLine (λ h. told done_text (leg_chosen number leg h)) self.old self.new ready.old ready.new result }
+        ensures { ServesLine (λ h. replied done_text (leg_chosen number leg h)) self.old self.new ready.old ready.new result }
     {
         match self.bundles.choose(number, leg, &mut self.scratch) {
             Ok(()) => self.answer(&Reply::Done, ready),
@@ -121,10 +118,10 @@ impl BundleServer {
     }
 
     fn pump(&mut self, number: u32, ready: &mut Blob) -> Result<(), Halt>
-        ensures { ServesLine (λ h. told pumped_text (bundle_pumped number h)) self.old self.new ready.old ready.new result }
+        ensures { ServesLine (λ h. replied pumped_text (bundle_pumped number h)) self.old self.new ready.old ready.new result }
     {
         match self.bundles.pump(number, &mut self.scratch) {
-            Ok(counts) => tell(
+            Ok(counts) => reply_with(
                 BundleReply::Pumped {
                     forwarded: counts.forwarded,
                     dropped: counts.dropped,
@@ -136,7 +133,7 @@ impl BundleServer {
     }
 
     fn draw(&mut self, number: u32, ready: &mut Blob) -> Result<(), Halt>
-        ensures { ServesLine (λ h. told packet_text (packet_drawn number h)) self.old self.new ready.old ready.new result }
+        ensures { ServesLine (λ h. replied packet_text (packet_drawn number h)) self.old self.new ready.old ready.new result }
     {
         match self.bundles.draw(number, &mut self.scratch.packet) {
             Ok(_) => self.answer(&Reply::Packet, ready),
@@ -145,7 +142,7 @@ impl BundleServer {
     }
 
     fn redraw(&mut self, number: u32, seq: u16, ready: &mut Blob) -> Result<(), Halt>
-        ensures { ServesLine (λ h. told packet_text (packet_redrawn number seq h)) self.old self.new ready.old ready.new result }
+        ensures { ServesLine (λ h. replied packet_text (packet_redrawn number seq h)) self.old self.new ready.old ready.new result }
     {
         match self.bundles.redraw(number, seq, &mut self.scratch.packet) {
             Ok(()) => self.answer(&Reply::Packet, ready),
@@ -156,7 +153,7 @@ impl BundleServer {
     // Serves the call of a line.
     fn serve(&mut self, line: &BundleLine, ready: &mut Blob) -> Result<(), Halt>
         requires { HasLegs line.now }
-        ensures { ServesLine (λ h. line_told line.now h) self.old self.new ready.old ready.new result }
+        ensures { ServesLine (λ h. line_replied line.now h) self.old self.new ready.old ready.new result }
     {
         match line {
             BundleLine::Room(call) => self.call(call, ready),
@@ -184,7 +181,7 @@ impl BundleServer {
 }
 
 // Appends the line of a bundle's reply to `ready`, the output so far. Only calls on bundles have such replies.
-fn tell(reply: BundleReply, ready: &mut Blob) -> Result<(), Halt>
+fn reply_with(reply: BundleReply, ready: &mut Blob) -> Result<(), Halt>
     ensures ok { OnOk result (ready.new ≡ ready.old ++ (bundle_reply_text reply ++ 10 ∷ [])) }
     ensures err { OnErr result (ready.new ≡ ready.old) }
     ensures only { OnErr result (result ≡ Err Starved) }
@@ -196,7 +193,7 @@ fn tell(reply: BundleReply, ready: &mut Blob) -> Result<(), Halt>
 impl Judge for BundleServer {
     ghost State = { Simulcast };
 
-    ghost stands = { λ server h. StandsFor untold server.bundles h };
+    ghost stands = { λ server h. StandsFor unrecorded server.bundles h };
 
     ghost step = { bundle_served };
 

@@ -20,7 +20,8 @@ use std::sync::Wait;
 use std::thread::Threads;
 use turn_lock::{Seat, Turns};
 
-/// Makes these calls on a new room behind a new lock. Returns the lock, the seat that made the calls, and the lines of their replies.
+/// Creates a room and a lock that guards it, and makes these calls on the room. Returns the lock, the seat that made the calls, and the lines of the
+/// replies.
 fn open<W: Wait + Sync>(
     rt: &W,
     alloc: Global,
@@ -75,7 +76,7 @@ fn serve_ports<P: Ports, K: Sink, C: Clock + Sync, W: Threads + Wait + Sync>(
     requires none_back { P.back_count ports.old ≡ 0 }
     ensures ports { P.faults ports.old ≤ P.faults ports.new }
     ensures sink { K.faults sink.old ≤ K.faults sink.new }
-    ensures ends { Ends P.Port.told P.Port.faults P.Port.name limit served.now.calls served.now.ports.items (K.written sink.old) (K.written sink.new)
+    ensures ends { Ends P.Port.traffic P.Port.faults P.Port.name limit served.now.calls served.now.ports.items (K.written sink.old) (K.written sink.new)
         (K.faults sink.old) (K.faults sink.new)
         (seen_ports (P.bound ports.old) (P.back_count ports.old) (P.returned ports.old) (P.faults ports.old))
         (seen_ports (P.bound ports.new) (P.back_count ports.new) (P.returned ports.new) (P.faults ports.new)) (number_of result) }
@@ -110,7 +111,7 @@ pub fn act<P: Ports, K: Sink, C: Clock + Sync, W: Threads + Wait + Sync>(
     requires none_back { P.back_count ports.old ≡ 0 }
     ensures ports { P.faults ports.old ≤ P.faults ports.new }
     ensures sink { K.faults sink.old ≤ K.faults sink.new }
-    ensures acts { Acts P.Port.told P.Port.faults P.Port.name limit served.now.calls served.now.ports.items (K.written sink.old) (K.written sink.new)
+    ensures acts { Acts P.Port.traffic P.Port.faults P.Port.name limit served.now.calls served.now.ports.items (K.written sink.old) (K.written sink.new)
         (K.faults sink.old) (K.faults sink.new)
         (seen_ports (P.bound ports.old) (P.back_count ports.old) (P.returned ports.old) (P.faults ports.old))
         (seen_ports (P.bound ports.new) (P.back_count ports.new) (P.returned ports.new) (P.faults ports.new)) (number_of result) }

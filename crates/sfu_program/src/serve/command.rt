@@ -13,8 +13,9 @@ use std::alloc::Global;
 use std::sync::Wait;
 use std::thread::Threads;
 
-/// Reads a configuration to its end, makes its calls, and writes their replies. Then binds its ports in order, and runs a session of `limit`
-/// turns for each port, each session on its own thread. Then releases the ports in order, writes a line for each session, and returns the status.
+/// Reads a configuration to its end, makes its calls, and writes their replies. Then binds the ports of the configuration in order. For each port,
+/// runs a session of `limit` turns. Each session runs on its own thread. Then releases the ports in order, writes a line for each session, and
+/// returns the status.
 pub fn serve<S: Source, K: Sink, P: Ports, C: Clock + Sync, W: Threads + Wait + Sync>(
     rt: &W,
     alloc: Global,
@@ -27,7 +28,7 @@ pub fn serve<S: Source, K: Sink, P: Ports, C: Clock + Sync, W: Threads + Wait + 
     requires limited { limit ≤ 1000000000000 }
     requires unbound { P.bound ports.old ≡ 0 }
     requires none_back { P.back_count ports.old ≡ 0 }
-    ensures { Serves P.Port.told P.Port.faults P.Port.name limit (exchange_of S.left S.faults K.written K.faults source.old source.new sink.old sink.new)
+    ensures { Serves P.Port.traffic P.Port.faults P.Port.name limit (exchange_of S.left S.faults K.written K.faults source.old source.new sink.old sink.new)
         (seen_ports (P.bound ports.old) (P.back_count ports.old) (P.returned ports.old) (P.faults ports.old))
         (seen_ports (P.bound ports.new) (P.back_count ports.new) (P.returned ports.new) (P.faults ports.new)) (number_of result) }
 {

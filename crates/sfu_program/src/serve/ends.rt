@@ -20,7 +20,7 @@ fn add_end(number: u32, end: SessionEnd, ready: &mut Blob) -> Result<(), NoMemor
     ready.append(b"\n")
 }
 
-/// Appends the lines of sessions to `ready`, the output so far, in order. The first session has the number 1.
+/// Appends one line for each session, in order, to `ready`, which holds the output so far. The first session has the number 1.
 pub fn add_ends<L>(ended: &[Ended<L>], ready: &mut Blob) -> Result<(), NoMemory>
     requires few { length ended.now ≤ 64 }
     requires unworn { AreUnworn (ends_of ended.now) }

@@ -7,12 +7,12 @@ ghost use Rattle.sfu_program.specs.declared.serve.opening.Unmade.TheVariants.{Wo
 
 use room_core::KeepNone;
 use script_texts::{add_reply, wants_memory};
-use sfu_base::{Blob, Call, NoMemory, PacketBuf, Scratch, SeqList};
+use sfu_base::{Blob, Call, NoMemory, Scratch};
 use sfu_serve::SharedRoom;
 use std::sync::Wait;
 use turn_lock::{Seat, Turns};
 
-/// Why a call wasn't made.
+/// Why `make_calls` failed.
 #[derive(Clone, Copy, Debug)]
 pub enum Unmade {
     /// Out of memory.
@@ -50,7 +50,7 @@ fn make_call<W: Wait + Sync>(
     }
 }
 
-/// Makes these calls by the first seat, in order, and appends the lines of their replies to `ready`, the output so far.
+/// Makes these calls in order, all from the first seat. Appends a line for each reply to `ready`, which holds the output so far.
 pub fn make_calls<W: Wait + Sync>(
     rt: &W,
     turns: &Turns<SharedRoom<KeepNone>>,
@@ -64,10 +64,7 @@ pub fn make_calls<W: Wait + Sync>(
     ensures worn { IfErr result (λ why. why ≡ Worn → IsWornOut turns.now calls.now seat.new) }
     ensures fits { Fits seat.new }
 {
-    let mut scratch = Scratch {
-        packet: PacketBuf::new(),
-        names: SeqList::new(),
-    };
+    let mut scratch = Scratch::new();
     for call in calls {
         make_call(rt, turns, seat, call, &mut scratch, ready)?;
     }

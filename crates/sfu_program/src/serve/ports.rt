@@ -13,7 +13,7 @@ use sfu_script::{PortLine, PortRole};
 use sfu_serve::{Ended, Job, Role};
 use std::alloc::Global;
 
-/// Why the ports weren't all bound.
+/// Why binding the ports failed.
 #[derive(Clone, Copy, Debug)]
 pub enum Unbound {
     /// Out of memory.
@@ -49,7 +49,7 @@ fn role(line: PortRole) -> Role
 // Binds the port of a line, and returns the job of the port's session.
 fn bind_one<P: Ports>(line: &PortLine, ports: &mut P) -> Result<Job<P::Port>, Failed>
     requires { P.bound ports.old < 64 }
-    ensures fresh { IfOk result (λ job. IsFresh line.now (job_before job.role (P.Port.told job.link) (P.Port.faults job.link))) }
+    ensures fresh { IfOk result (λ job. IsFresh line.now (job_before job.role (P.Port.traffic job.link) (P.Port.faults job.link))) }
     ensures name { IfOk result (λ job. P.Port.name job.link ≡ P.bound ports.old) }
     ensures bound { P.bound ports.new ≡ after_bind result (P.bound ports.old) }
     ensures back_count { P.back_count ports.new ≡ P.back_count ports.old }
@@ -70,7 +70,7 @@ fn bind_each<P: Ports>(
     jobs: &mut Vec<Job<P::Port>>,
 ) -> Result<(), Failed>
     requires few { length lines.now ≤ 64 }
-    requires room { length lines.now ≤ vec_capacity jobs.old }
+    requires capacity { length lines.now ≤ vec_capacity jobs.old }
     requires none { vec_len jobs.old ≡ 0 }
     requires unbound { P.bound ports.old ≡ 0 }
     ensures all { OnOk result (vec_len jobs.new ≡ length lines.now) }
@@ -78,7 +78,7 @@ fn bind_each<P: Ports>(
     ensures once { OnErr result (P.faults ports.new ≡ raised (P.faults ports.old)) }
     ensures kept { OnOk result (P.faults ports.new ≡ P.faults ports.old) }
     ensures never_falls { P.faults ports.old ≤ P.faults ports.new }
-    ensures fresh { AreFresh (take (vec_len jobs.new) lines.now) (befores P.Port.told P.Port.faults jobs.new.items) }
+    ensures fresh { AreFresh (take (vec_len jobs.new) lines.now) (befores P.Port.traffic P.Port.faults jobs.new.items) }
     ensures names { AreNamedFrom P.Port.name 0 (map (λ job. job.link) jobs.new.items) }
     ensures bound { P.bound ports.new ≡ vec_len jobs.new }
     ensures back_count { P.back_count ports.new ≡ P.back_count ports.old }
@@ -92,7 +92,7 @@ fn bind_each<P: Ports>(
 }
 
 // Releases the ports of jobs, in the order of the jobs.
-fn give_back<P: Ports>(jobs: Vec<Job<P::Port>>, ports: &mut P)
+fn release<P: Ports>(jobs: Vec<Job<P::Port>>, ports: &mut P)
     requires { P.back_count ports.old + vec_len jobs ≤ P.bound ports.old }
     ensures bound { P.bound ports.new ≡ P.bound ports.old }
     ensures back_count { P.back_count ports.new ≡ P.back_count ports.old + vec_len jobs }
@@ -107,7 +107,7 @@ fn give_back<P: Ports>(jobs: Vec<Job<P::Port>>, ports: &mut P)
 }
 
 /// Releases the ports of sessions that ended, in the order of the sessions.
-pub fn give_back_ended<P: Ports>(ended: Vec<Ended<P::Port>>, ports: &mut P)
+pub fn release_ended<P: Ports>(ended: Vec<Ended<P::Port>>, ports: &mut P)
     requires { P.back_count ports.old + vec_len ended ≤ P.bound ports.old }
     ensures bound { P.bound ports.new ≡ P.bound ports.old }
     ensures back_count { P.back_count ports.new ≡ P.back_count ports.old + vec_len ended }
@@ -122,8 +122,8 @@ pub fn give_back_ended<P: Ports>(ended: Vec<Ended<P::Port>>, ports: &mut P)
     }
 }
 
-/// Binds the ports of lines in order, and returns a job for each. If a bind fails, releases the ports that were bound before, in
-/// order.
+/// Binds the port of each configuration line in order, and returns a job for each port. If binding a port fails, releases the ports that were bound
+/// before it, in order.
 #[tactic(auto, using(crate::proofs::ServeBacks::fresh_quiet))]
 pub fn bind_all<P: Ports>(
     alloc: Global,
@@ -133,7 +133,7 @@ pub fn bind_all<P: Ports>(
     requires few { length lines.now ≤ 64 }
     requires unbound { P.bound ports.old ≡ 0 }
     requires none_back { P.back_count ports.old ≡ 0 }
-    ensures fresh { IfOk result (λ jobs. AreFresh lines.now (befores P.Port.told P.Port.faults jobs.items)) }
+    ensures fresh { IfOk result (λ jobs. AreFresh lines.now (befores P.Port.traffic P.Port.faults jobs.items)) }
     ensures names { IfOk result (λ jobs. AreNamedFrom P.Port.name 0 (map (λ job. job.link) jobs.items)) }
     ensures bound { IfOk result (λ jobs. P.bound ports.new ≡ vec_len jobs) }
     ensures all { IfOk result (λ jobs. vec_len jobs ≡ length lines.now) }
@@ -141,7 +141,7 @@ pub fn bind_all<P: Ports>(
     ensures returned { OnOk result (P.returned ports.new ≡ P.returned ports.old) }
     ensures kept { OnOk result (P.faults ports.new ≡ P.faults ports.old) }
     ensures never_falls { P.faults ports.old ≤ P.faults ports.new }
-    ensures failed { IfErr result (λ why. why ≡ PortFault → WasUnbound P.Port.told P.Port.faults P.Port.name lines.now
+    ensures failed { IfErr result (λ why. why ≡ PortFault → WasUnbound P.Port.traffic P.Port.faults P.Port.name lines.now
         (seen_ports (P.bound ports.old) (P.back_count ports.old) (P.returned ports.old) (P.faults ports.old))
         (seen_ports (P.bound ports.new) (P.back_count ports.new) (P.returned ports.new) (P.faults ports.new))) }
     ensures starved { IfErr result (λ why. why ≡ Starved → ports.new ≡ ports.old) }
@@ -150,7 +150,7 @@ pub fn bind_all<P: Ports>(
         return Err(Unbound::Starved);
     };
     if bind_each(lines, ports, &mut jobs).is_err() {
-        give_back(jobs, ports);
+        release(jobs, ports);
         return Err(Unbound::PortFault);
     }
     Ok(jobs)

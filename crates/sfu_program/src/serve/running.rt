@@ -15,7 +15,7 @@ ghost use Rattle.sfu_program.specs.ServeEnding.{EndsWith};
 ghost use Rattle.sfu_driver.specs.Statuses.{number_of};
 
 use super::ends::{add_ends, made_all_turns};
-use super::ports::give_back_ended;
+use super::ports::release_ended;
 use room_core::KeepNone;
 use sfu_base::{Blob, Clock, Link, NoMemory, Ports, Sink};
 use sfu_driver::{Status, write_all};
@@ -25,7 +25,7 @@ use std::sync::Wait;
 use std::thread::Threads;
 use turn_lock::{Seat, Turns};
 
-/// Runs the sessions of all jobs at the same time, and closes the lock when all have ended.
+/// Runs the sessions of all jobs at the same time. Closes the lock when all sessions have ended.
 pub fn run_all<L: Link + Send + Drop, C: Clock + Sync, W: Threads + Wait + Sync>(
     rt: &W,
     alloc: Global,
@@ -42,7 +42,7 @@ pub fn run_all<L: Link + Send + Drop, C: Clock + Sync, W: Threads + Wait + Sync>
     requires roles { All (λ j. CanBe j.role) jobs.items }
     requires limited { limit ≤ 1000000000000 }
     ensures served { IfOk result (λ ended. (calls : List Call) → HasMade turns calls seat → length calls < 2 ^ 32
-        → HaveServed limit calls (befores L.told L.faults jobs.items) (afters L.told L.faults ended.items)) }
+        → HaveServed limit calls (befores L.traffic L.faults jobs.items) (afters L.traffic L.faults ended.items)) }
     ensures names { IfOk result (λ ended. map (λ e. L.name e.link) ended.items ≡ map (λ j. L.name j.link) jobs.items) }
 {
     let ended = run_sessions(rt, alloc, &turns, &mut seat, jobs, clock, limit)?;
@@ -58,7 +58,7 @@ pub fn end_all<P: Ports, K: Sink>(
     ports: &mut P,
     sink: &mut K,
 ) -> Status
-    requires room { P.back_count ports.old + vec_len ended ≤ P.bound ports.old }
+    requires capacity { P.back_count ports.old + vec_len ended ≤ P.bound ports.old }
     requires few { vec_len ended ≤ 64 }
     requires unworn { AreUnworn (ends_of ended.items) }
     ensures bound { P.bound ports.new ≡ P.bound ports.old }
@@ -73,7 +73,7 @@ pub fn end_all<P: Ports, K: Sink>(
     let mut ready = Blob::new(alloc);
     let lines = add_ends(ended.as_slice(), &mut ready);
     let all = made_all_turns(ended.as_slice());
-    give_back_ended(ended, ports);
+    release_ended(ended, ports);
     if lines.is_err() {
         return Status::NoMemory;
     }

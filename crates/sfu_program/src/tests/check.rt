@@ -5,7 +5,8 @@ use sfu_base::{MemSink, MemSource};
 use std::alloc::{AllocError, Global};
 use std::test::Fail;
 
-/// The two packets that are forwarded for the layered track of `run.rt`: a key frame of one packet, and a frame that refers to it.
+/// `KEY` and `NEXT` are the two packets that are forwarded for the layered track of `run.rt`. `KEY` is a key frame of one packet. `NEXT` is a frame
+/// that refers to this key frame.
 pub const KEY: &str = "90e0ffff0000000022222222bede000348c00001c0003a4101400000183000\n";
 
 pub const NEXT: &str = "90e000000000000022222222bede000142c10002103000\n";
@@ -13,7 +14,7 @@ pub const NEXT: &str = "90e000000000000022222222bede000142c10002103000\n";
 /// The first packet of a frame that isn't finished.
 pub const BEGUN: &str = "906000000000000011111111bede00034880000180003a4101000000183000\n";
 
-/// Runs this command with this id; returns the status and the output.
+/// Runs the command `name` with the id `id` as its argument; returns the status and the output.
 pub fn command(
     alloc: Global,
     name: &str,

@@ -54,11 +54,11 @@ impl Sink for ByteSink {
 #[derive(Clone, Copy)]
 struct Row<'a> {
     words: &'a [&'a str],
-    /// The input in pieces, each with the text that is due after it.
+    /// The input in pieces. Each piece is paired with the text that is due after this piece.
     pieces: &'a [(&'a str, &'a str)],
-    /// How many reads of one byte are made.
+    /// How many reads are made, each of one byte.
     reads: u64,
-    /// The text that is due at the end; if the input ends the command, the command's last text.
+    /// The last text that the command writes, after the texts that belong to the pieces.
     last: &'a [u8],
     status: u8,
 }

@@ -53,7 +53,7 @@ impl<'a, R: Clock> GatedLink<'a, R> {
 }
 
 impl<'a, R: Clock> Link for GatedLink<'a, R> {
-    ghost told = { λ s. ⟦<MemLink as Link>⟧.told s.inner };
+    ghost traffic = { λ s. ⟦<MemLink as Link>⟧.traffic s.inner };
 
     ghost name = { λ s. s.name };
 

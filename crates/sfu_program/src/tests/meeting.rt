@@ -52,7 +52,7 @@ impl<'a, R: Clock> MeetingLink<'a, R> {
 }
 
 impl<'a, R: Clock> Link for MeetingLink<'a, R> {
-    ghost told = { λ _. None };
+    ghost traffic = { λ _. None };
 
     ghost name = { λ s. s.name };
 

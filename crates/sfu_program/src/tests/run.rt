@@ -3,6 +3,7 @@ use super::faults::ByteSource;
 use crate::alone::sfu_alone;
 use sfu_base::{Failed, MemSink, MemSource, Source};
 use std::alloc::{AllocError, Global};
+use std::process::Abort;
 use std::test::Fail;
 
 const FIRST: &str =
@@ -31,10 +32,27 @@ pub fn run(alloc: Global, script: &str) -> Result<(u8, Vec<u8>), AllocError> {
     Ok((status, sink.written().to_vec(alloc)?))
 }
 
+// Runs a script for each row: the text `opening` with the row's script after it. Compares the status, and the output after `replies`.
+fn check_scripts(
+    rt: &impl Abort,
+    alloc: Global,
+    opening: &str,
+    replies: &str,
+    rows: &[(&str, u8, &str)],
+) -> Result<(), Fail> {
+    for (script, status, text) in rows {
+        let whole = format!(in alloc; "{opening}{script}")?;
+        let wanted = format!(in alloc; "{replies}{text}")?;
+        let (got, written) = run(alloc, whole.as_str())?;
+        assert_eq!(rt; got, *status, "{script:?}");
+        assert_eq!(rt; written.as_slice(), wanted.as_bytes(), "{script:?}");
+    }
+    Ok(())
+}
+
 #[test]
 fn scripts_get_their_replies_and_statuses(rt: HostRuntime) -> Result<(), Fail> {
-    let alloc = rt.alloc();
-    for (script, status, replies) in [
+    let rows: [(&str, u8, &str); 5] = [
         // The packet is forwarded with the subscriber's number and SSRC; then the queue is empty.
         (
             "take 1\ntake 1\n",
@@ -56,49 +74,47 @@ fn scripts_get_their_replies_and_statuses(rt: HostRuntime) -> Result<(), Fail> {
             0,
             "ok\npacket 806000070000000022222222aabb\npacket 80e000080000000022222222ff\n",
         ),
-    ] {
-        let text = format!(in alloc; "{FIRST}{script}")?;
-        let wanted = format!(in alloc; "{FIRST_REPLIES}{replies}")?;
-        let (got, written) = run(alloc, text.as_str())?;
-        assert_eq!(rt; got, status, "{script}");
-        assert_eq!(rt; written.as_slice(), wanted.as_bytes(), "{script}");
-    }
-    Ok(())
+    ];
+    check_scripts(&rt, rt.alloc(), FIRST, FIRST_REPLIES, &rows)
 }
 
 #[test]
 fn calls_are_refused_for_their_reasons(rt: HostRuntime) -> Result<(), Fail> {
-    let alloc = rt.alloc();
-    for (script, replies) in [
-        ("publish 1 plain 11111111 100\n", "refused numberused 1\n"),
+    let rows: [(&str, u8, &str); 8] = [
+        (
+            "publish 1 plain 11111111 100\n",
+            0,
+            "refused numberused 1\n",
+        ),
         (
             "publish 2 layered 11111111 100 15\n",
+            0,
             "refused badextensionid\n",
         ),
-        ("join 2 9 22222222 0 0 0\n", "refused notrack\n"),
-        ("leave 9\n", "refused nosubscriber\n"),
-        ("packet 1 0 8060\n", "refused unreadable short\n"),
+        ("join 2 9 22222222 0 0 0\n", 0, "refused notrack\n"),
+        ("leave 9\n", 0, "refused nosubscriber\n"),
+        ("packet 1 0 8060\n", 0, "refused unreadable short\n"),
         (
             "packet 1 0 406000010000000011111111\n",
+            0,
             "refused unreadable version\n",
         ),
         (
             "packet 1 0 806000020000000033333333\n",
+            0,
             "refused wrongssrc 33333333 11111111\n",
         ),
-        ("unpublish 1\npacket 1 40 8060\n", "ok\nrefused notrack\n"),
-    ] {
-        let text = format!(in alloc; "{FIRST}{script}")?;
-        let wanted = format!(in alloc; "{FIRST_REPLIES}{replies}")?;
-        let (got, written) = run(alloc, text.as_str())?;
-        assert_eq!(rt; got, 0, "{script}");
-        assert_eq!(rt; written.as_slice(), wanted.as_bytes(), "{script}");
-    }
-    Ok(())
+        (
+            "unpublish 1\npacket 1 40 8060\n",
+            0,
+            "ok\nrefused notrack\n",
+        ),
+    ];
+    check_scripts(&rt, rt.alloc(), FIRST, FIRST_REPLIES, &rows)
 }
 
 #[test]
-fn two_frames_of_a_layered_track_go_out_and_are_resent(rt: HostRuntime) -> Result<(), Fail> {
+fn two_frames_of_a_layered_track_are_forwarded_and_resent(rt: HostRuntime) -> Result<(), Fail> {
     let script = "publish 1 layered 11111111 100 4\njoin 1 1 22222222 65535 0 0\n\
         packet 1 0 90e003e80000000011111111bede000348c0000180003a4101000000183000\n\
         packet 1 33 90e003e90000000011111111bede000142c10002103000\n\
@@ -107,16 +123,12 @@ fn two_frames_of_a_layered_track_go_out_and_are_resent(rt: HostRuntime) -> Resul
         packet 90e0ffff0000000022222222bede000348c00001c0003a4101400000183000\n\
         packet 90e000000000000022222222bede000142c10002103000\nempty\n\
         packet 90e0ffff0000000022222222bede000348c00001c0003a4101400000183000\nkey no\npassed\n";
-    let (got, written) = run(rt.alloc(), script)?;
-    assert_eq!(rt; got, 0);
-    assert_eq!(rt; written.as_slice(), wanted.as_bytes());
-    Ok(())
+    check_scripts(&rt, rt.alloc(), "", "", &[(script, 0, wanted)])
 }
 
 #[test]
 fn lines_are_skipped_and_end_as_they_should(rt: HostRuntime) -> Result<(), Fail> {
-    let alloc = rt.alloc();
-    for (script, status, text) in [
+    let rows: [(&str, u8, &str); 9] = [
         // An empty script has no output.
         ("", 0, ""),
         // The last line may lack its LF.
@@ -134,12 +146,8 @@ fn lines_are_skipped_and_end_as_they_should(rt: HostRuntime) -> Result<(), Fail>
         ("take 1\r\r\n", 5, "line 1\n"),
         ("\r", 5, "line 1\n"),
         (" ", 5, "line 1\n"),
-    ] {
-        let (got, written) = run(alloc, script)?;
-        assert_eq!(rt; got, status, "{script:?}");
-        assert_eq!(rt; written.as_slice(), text.as_bytes(), "{script:?}");
-    }
-    Ok(())
+    ];
+    check_scripts(&rt, rt.alloc(), "", "", &rows)
 }
 
 #[test]
@@ -196,20 +204,29 @@ fn other_words_get_the_usage_line(rt: HostRuntime) -> Result<(), Fail> {
 #[test]
 fn hostile_packets_and_lines_are_refused(rt: HostRuntime) -> Result<(), Fail> {
     let alloc = rt.alloc();
-    for (packet, fault) in [
-        ("8f6000010000000011111111", "csrc"),
-        ("906000010000000011111111bede0001", "extension"),
-        ("a0600001000000001111111100", "padding"),
-        ("a06000010000000011111111", "padding"),
-    ] {
-        let script = format!(in alloc;
-            "publish 1 plain 11111111 100\npacket 1 0 {packet}\nmissing 1\n"
-        )?;
-        let wanted = format!(in alloc; "ok\nrefused unreadable {fault}\nmissing\n")?;
-        let (got, written) = run(alloc, script.as_str())?;
-        assert_eq!(rt; got, 0, "{packet}");
-        assert_eq!(rt; written.as_slice(), wanted.as_bytes(), "{packet}");
-    }
+    let rows: [(&str, u8, &str); 4] = [
+        (
+            "packet 1 0 8f6000010000000011111111\nmissing 1\n",
+            0,
+            "refused unreadable csrc\nmissing\n",
+        ),
+        (
+            "packet 1 0 906000010000000011111111bede0001\nmissing 1\n",
+            0,
+            "refused unreadable extension\nmissing\n",
+        ),
+        (
+            "packet 1 0 a0600001000000001111111100\nmissing 1\n",
+            0,
+            "refused unreadable padding\nmissing\n",
+        ),
+        (
+            "packet 1 0 a06000010000000011111111\nmissing 1\n",
+            0,
+            "refused unreadable padding\nmissing\n",
+        ),
+    ];
+    check_scripts(&rt, alloc, "publish 1 plain 11111111 100\n", "ok\n", &rows)?;
     // A line of 4,201 bytes.
     let mut line = String::new(alloc);
     for _ in 0..4201 {

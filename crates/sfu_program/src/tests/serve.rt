@@ -7,6 +7,7 @@ use sfu_base::{
     CalmPorts, Clock, MemLink, MemPorts, MemSink, MemSource, PacketBuf, Ports, StepClock,
 };
 use std::alloc::{AllocError, Global};
+use std::process::Abort;
 use std::sync::Wait;
 use std::test::Fail;
 use std::thread::Threads;
@@ -15,7 +16,7 @@ use std::thread::Threads;
 pub const CONFIGURATION: &str =
     "publish 1 plain 11111111 100\njoin 1 1 22222222 7 0 0\nport 127.0.0.1:5000 127.0.0.1:6000 publisher 1 11111111\nport 127.0.0.1:5001 127.0.0.1:6001 subscriber 1 22222222\n";
 
-/// The subscriber's retransmissions are sent on a stream of their own.
+/// A configuration in which the subscriber's retransmissions are sent on a separate stream.
 pub const WITH_RTX: &str =
     "publish 1 plain 11111111 100\njoin 1 1 22222222 7 0 0\nport 127.0.0.1:5000 127.0.0.1:6000 publisher 1 11111111\nport 127.0.0.1:5001 127.0.0.1:6001 rtx 1 22222222 33333333 97\n";
 
@@ -45,7 +46,7 @@ pub fn served_by<W: Threads + Wait + Sync, P: Ports, C: Clock + Sync>(
     Ok((status, sink.written().to_vec(alloc)?))
 }
 
-/// Does the same with a clock that advances by 20 milliseconds at each reading.
+/// Does the same as `served_by`, with a clock that advances by 20 milliseconds at each reading.
 pub fn served<W: Threads + Wait + Sync, P: Ports>(
     rt: &W,
     alloc: Global,
@@ -59,7 +60,7 @@ pub fn served<W: Threads + Wait + Sync, P: Ports>(
     served_by(rt, alloc, turns, configuration, ports, &clock)
 }
 
-/// Returns a link that receives these datagrams, and fails at these receives and sends.
+/// Returns a link that receives these datagrams. `receives` and `sends` have the numbers of the receives and sends that fail, counted from 0.
 pub fn link(
     alloc: Global,
     datagrams: &[&[u8]],
@@ -99,22 +100,30 @@ fn links(alloc: Global, place: u64, turn: u64) -> Result<Vec<MemLink>, AllocErro
     Ok(links)
 }
 
-#[test]
-fn sessions_over_calm_ports_make_all_their_turns(rt: HostRuntime) -> Result<(), Fail> {
-    let alloc = rt.alloc();
-    let rows = [
-        ("1", CONFIGURATION),
-        ("20", CONFIGURATION),
-        ("1", WITH_RTX),
-        ("20", WITH_RTX),
-    ];
-    for (turns, configuration) in rows {
+// Runs `serve` over ports that never fail and receive nothing, for each row: the turns, the configuration, and the output. The status is 0.
+fn check_calm<W: Threads + Wait + Sync + Abort>(
+    rt: &W,
+    alloc: Global,
+    rows: &[(&str, &str, &str)],
+) -> Result<(), Fail> {
+    for (turns, configuration, text) in rows {
         let mut ports = CalmPorts::new(alloc)?;
-        let (status, written) = served(&rt, alloc, turns, configuration.as_bytes(), &mut ports)?;
-        assert_eq!(rt; written.as_slice(), ALL.as_bytes());
+        let (status, written) = served(rt, alloc, turns, configuration.as_bytes(), &mut ports)?;
+        assert_eq!(rt; written.as_slice(), text.as_bytes());
         assert_eq!(rt; status, 0);
     }
     Ok(())
+}
+
+#[test]
+fn sessions_over_calm_ports_make_all_their_turns(rt: HostRuntime) -> Result<(), Fail> {
+    let rows = [
+        ("1", CONFIGURATION, ALL),
+        ("20", CONFIGURATION, ALL),
+        ("1", WITH_RTX, ALL),
+        ("20", WITH_RTX, ALL),
+    ];
+    check_calm(&rt, rt.alloc(), &rows)
 }
 
 #[test]
@@ -319,20 +328,14 @@ fn a_line_outside_the_grammar_binds_no_port(rt: HostRuntime) -> Result<(), Fail>
 
 #[test]
 fn a_configuration_may_have_no_calls_and_no_ports(rt: HostRuntime) -> Result<(), Fail> {
-    let alloc = rt.alloc();
-    let rows: [(&str, &str); 3] = [
-        ("", ""),
-        ("join 1 1 22222222 7 0 0", "refused notrack\n"),
+    let rows: [(&str, &str, &str); 3] = [
+        ("2", "", ""),
+        ("2", "join 1 1 22222222 7 0 0", "refused notrack\n"),
         (
+            "2",
             "port 127.0.0.1:5002 127.0.0.1:6002 control",
             "session 1 all\n",
         ),
     ];
-    for (configuration, text) in rows {
-        let mut ports = CalmPorts::new(alloc)?;
-        let (status, written) = served(&rt, alloc, "2", configuration.as_bytes(), &mut ports)?;
-        assert_eq!(rt; written.as_slice(), text.as_bytes());
-        assert_eq!(rt; status, 0);
-    }
-    Ok(())
+    check_calm(&rt, rt.alloc(), &rows)
 }

@@ -24,7 +24,7 @@ const MANY_LOST: &str = "made 203 frames 310 packets\nlost 52 repeated 51 swappe
     subscriber 1 frames 12 packets 21 complaints 0\nsubscriber 2 frames 9 packets 17 complaints 0\n\
     subscriber 3 frames 5 packets 9 complaints 0\n";
 
-/// The words, and a source whose first read fails.
+/// Returns these texts as the words of a command line, and a source whose first read fails.
 pub fn at_words(alloc: Global, texts: &[&str]) -> Result<(Vec<String>, MemSource), AllocError> {
     let mut words = Vec::new(alloc);
     for text in texts {

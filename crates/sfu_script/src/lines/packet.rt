@@ -8,7 +8,7 @@ use crate::hex_text::{MOST_BYTES, decode};
 use crate::words::{leading32, leading64};
 use sfu_base::{Call, PacketBuf};
 
-/// Returns the track, the moment, and the text after them.
+/// Reads a track number and a moment from the start of `rest`. Returns both, and the text after them.
 #[tactic(auto, unfolding(crate::specs::ReadLines::packet_head_of))]
 #[inline(always)]
 pub fn head(rest: &[u8]) -> Result<(u32, u64, &[u8]), NoLine>
@@ -19,18 +19,18 @@ pub fn head(rest: &[u8]) -> Result<(u32, u64, &[u8]), NoLine>
     Ok((track, moment, rest))
 }
 
-/// Returns the call of a line `packet` whose further words are `rest`.
+/// Returns the call in a `packet` line. `rest` is the line's text after the word `packet`.
 #[tactic(auto, unfolding(crate::specs::ReadLines::packet_of))]
 #[inline(always)]
 pub fn read(rest: &[u8]) -> Result<Call, NoLine>
     ensures { result_ok result ≡ packet_of rest.now }
 {
     let (track, moment, digits) = head(rest)?;
-    let mut room = [0; MOST_BYTES];
-    let count = decode(digits, &mut room)?;
+    let mut buf = [0; MOST_BYTES];
+    let count = decode(digits, &mut buf)?;
     Ok(Call::Packet {
         track,
         moment,
-        bytes: PacketBuf::of(room, count),
+        bytes: PacketBuf::of(buf, count),
     })
 }

@@ -46,7 +46,7 @@ fn of_kind(track: u32, kind: &[u8], rest: &[u8]) -> Result<Call, NoLine>
     }
 }
 
-/// Returns the call of a line `publish` whose further words are `rest`.
+/// Returns the call in a `publish` line. `rest` is the line's text after the word `publish`.
 #[tactic(auto, unfolding(crate::specs::ReadLines::publish_of))]
 #[inline(always)]
 pub fn read(rest: &[u8]) -> Result<Call, NoLine>

@@ -65,7 +65,7 @@ fn why(rest: &[u8]) -> Result<Call, NoLine>
     })
 }
 
-/// Returns the call of the line with this command and the further words `rest`.
+/// Returns the call in a line. `command` is the line's first word, and `rest` is the text after it.
 #[inline(always)]
 pub fn read(command: SubscriberCommand, rest: &[u8]) -> Result<Call, NoLine>
     ensures { result_ok result ≡ subscriber_call_of command rest.now }

@@ -10,7 +10,7 @@ use crate::fields::read_fields;
 use crate::lines::{packet, publish};
 use sfu_base::Call;
 
-/// Returns the call of the line with this command and the further words `rest`.
+/// Returns the call in a line. `command` is the line's first word, and `rest` is the text after it.
 #[inline(always)]
 pub fn read(command: TrackCommand, rest: &[u8]) -> Result<Call, NoLine>
     ensures { result_ok result ≡ track_call_of command rest.now }

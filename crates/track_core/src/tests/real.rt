@@ -1,9 +1,9 @@
-//! Dependency descriptors of a browser's AV1 encoder in four scalability modes. The values are those that an independent parser, written from
-//! Appendix A, reads from them.
+//! Dependency descriptors of a browser's AV1 encoder in four scalability modes. The expected values come from an independent parser of these descriptors.
+//! That parser was written from Appendix A.
 
-/// One line for each descriptor. `key`: it carries a structure. `then`: it is read with the structure of the last `key` line. After `key` or
-/// `then` come the descriptor and the meaning of a frame that begins with the descriptor. The track's first frame begins with the descriptor of
-/// the last `key` line. The mask's last digit is target 0.
+/// Each line is about one descriptor. A `key` line has a descriptor that carries a structure. A `then` line has a descriptor that is read with the
+/// structure of the last `key` line. After `key` or `then` come the descriptor, and the meaning of the frame to which the descriptor belongs. The track's
+/// first frame begins with the descriptor of the last `key` line. The last digit of the mask stands for decode target 0.
 pub const REAL: &str = "\
 key 80000180003a4101809f805980 frame 1 start 1 epoch 1 key mask 1 layer 0 0 dtis [2] refs [] links [0]\n\
 then 000001 frame 1 start 1 epoch 1 key mask 1 layer 0 0 dtis [2] refs [] links [0]\n\

@@ -1,15 +1,17 @@
-//! Rows of tracks with a hold time of 100 milliseconds.
+//! Tests of tracks, as rows of text. Each track has a hold time of 100 milliseconds.
 //!
-//! The part of a line before `>` has one of four forms. A packet with one OBU element has time in milliseconds, sequence number, descriptor with id
-//! 4, and payload. A packet as bytes has `raw`, time and bytes. A tick has `tick` and time. A request for the missing numbers is `missing`. The part
-//! after `>` is the expected result: frames and packets with their sequence numbers, the refusal, the missing numbers, or nothing.
+//! The part of a line before `>` has one of four forms. A packet with one OBU element is written as four words: its time in milliseconds, its sequence
+//! number, its descriptor, and its payload. The descriptor's header extension id is 4. A packet given as bytes is written as `raw`, its time, and these
+//! bytes. A tick is written as `tick` and its time. A request for the missing sequence numbers is written as `missing`. The part after `>` is the expected
+//! result: frames and packets with their sequence numbers, the refusal, the missing numbers, or nothing.
 
-/// Rows of a layered track. Each row has a text that says what it shows, and its lines.
+/// Rows of a layered track. A row consists of a text that says what the row shows, and of the row's lines.
 ///
-/// Key descriptors begin with `c0`. Structure A (`c0 NN NN 80003a410100`) has one target and one chain; its template 1 is a switch with frame
-/// distance 1 and chain link 1. Structure B (`80003b410100`) is the same, but its template 1 is required. Structure C has two targets. In
-/// structure C, template 1 is in spatial layer 0, with distance 2 and links 2 and 1. Templates 2 and 3 are in spatial layer 1, both with links
-/// 1 and 1. Template 2 has distance 1, and template 3 has distances 1 and 2.
+/// Key descriptors begin with `c0`. A key descriptor with structure A is `c0 NN NN 80003a410100`. Structure A has one target and one chain. In template 1
+/// of structure A, the target's indication is Switch, the frame distance is 1, and the chain link is 1. Structure B (`80003b410100`) differs from structure
+/// A only in template 1, where the target's indication is Required. Structure C has two targets. In structure C, template 1 is in spatial layer 0, with
+/// distance 2 and links 2 and 1. Templates 2 and 3 of structure C are in spatial layer 1, and each of them has links 1 and 1. Template 2 has distance 1.
+/// Template 3 has distances 1 and 2.
 pub const LAYERED: [(&str, &str); 10] = [
     (
         "a frame's packets come in any order",
@@ -102,7 +104,7 @@ pub const LAYERED: [(&str, &str); 10] = [
     ),
 ];
 
-/// Rows of a plain track, in the same form.
+/// Rows of a plain track, in the form of [`LAYERED`].
 pub const PLAIN: [(&str, &str); 2] = [
     (
         "packets come in any order, padding among them",

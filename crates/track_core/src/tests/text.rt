@@ -6,7 +6,7 @@ use sfu_base::{Dti, FrameMeaning, PacketBuf};
 use std::alloc::{AllocError, Global};
 use std::process::Abort;
 
-/// Removes the text up to and including the first byte `at`. Returns the removed part without that byte.
+/// Removes the text up to and including the first byte that equals `at`. Returns the removed text without this byte.
 pub fn cut<'a>(text: &mut &'a [u8], at: u8) -> &'a [u8] {
     let all = *text;
     for (i, byte) in all.iter().enumerate() {
@@ -19,7 +19,7 @@ pub fn cut<'a>(text: &mut &'a [u8], at: u8) -> &'a [u8] {
     all
 }
 
-/// Removes the next word, which is a decimal number, and returns that number.
+/// Removes the next word, a decimal number, and returns the number.
 pub fn number(text: &mut &[u8]) -> u32 {
     let mut n = 0u32;
     for digit in cut(text, b' ') {
@@ -40,7 +40,7 @@ fn hex_digit(digit: u8) -> u8
     }
 }
 
-/// Removes the next word, which consists of hex digits, and returns their bytes.
+/// Removes the next word, which consists of hex digits, and returns the bytes that the digits stand for.
 pub fn hex(text: &mut &[u8]) -> PacketBuf {
     let mut out = PacketBuf::new();
     let digits = cut(text, b' ');
@@ -51,7 +51,7 @@ pub fn hex(text: &mut &[u8]) -> PacketBuf {
     out
 }
 
-/// Appends bytes, unless the buffer would then have more than 1,500.
+/// Appends bytes to the buffer. If the buffer would then have more than 1,500 bytes, appends nothing.
 pub fn put(out: &mut PacketBuf, bytes: &[u8]) {
     if out.bytes().len() + bytes.len() <= 1500 {
         out.append(bytes);
@@ -67,7 +67,7 @@ fn codes(dtis: &[Dti; 32]) -> [u32; 32] {
     out
 }
 
-/// Returns a frame's meaning as text. The mask's last digit is target 0.
+/// Returns a frame's meaning as text. The last digit of the mask stands for decode target 0.
 pub fn frame_words(
     rt: &impl Abort,
     alloc: Global,
@@ -95,7 +95,7 @@ pub fn frame_words(
     )
 }
 
-/// Appends a word, and a space before it unless it is the first.
+/// Appends a word. If it isn't the first word, a space is appended before it.
 pub fn say(said: &mut String, word: &str) -> Result<(), AllocError> {
     if !said.is_empty() {
         said.push_str(" ")?;

@@ -1,11 +1,11 @@
-//! The descriptors of a browser's encoder, compared with the values of an independent parser.
+//! Reads the descriptors of a browser's encoder, and compares their contents with the values of an independent parser.
 
 ghost use Rattle.std.specs.Prelude.{◌<◌};
 
 use super::real::REAL;
 use super::*;
 
-/// Cuts off the text before the next byte `at` and returns it. The byte itself is removed.
+/// Removes the text up to and including the first byte that equals `at`. Returns the removed text without this byte.
 fn cut<'a>(text: &mut &'a [u8], at: u8) -> &'a [u8] {
     let all = *text;
     for (i, byte) in all.iter().enumerate() {
@@ -54,7 +54,8 @@ fn hex(text: &mut &[u8]) -> PacketBuf {
     out
 }
 
-/// Returns the mask in the next word, target 0 first. `-` stands for the mask of all targets if a structure is carried, and for no mask otherwise.
+/// Removes the next word, and returns its mask. The word's first digit stands for target 0. The word may also be `-`. If `carries` is true, `-` stands for
+/// the mask of all targets. Otherwise `-` stands for no mask.
 fn mask(text: &mut &[u8], carries: bool, targets: usize) -> Option<u32> {
     let word = cut(text, b' ');
     if word == [b'-'].as_slice() {
@@ -73,7 +74,7 @@ fn mask(text: &mut &[u8], carries: bool, targets: usize) -> Option<u32> {
     Some(mask)
 }
 
-/// Returns the numbers of the list in the next word, at most 16, and their count.
+/// Removes the next word, which is a list of at most 16 numbers. Returns the numbers and their count.
 fn numbers(text: &mut &[u8]) -> ([u16; 16], usize) {
     let mut out = [0; 16];
     let mut count = 0;
@@ -104,7 +105,7 @@ fn descriptors_of_a_browsers_encoder_are_read_written_and_masked(
     Ok(())
 }
 
-/// Returns the numbers as bytes, modulo 256.
+/// Returns each number modulo 256, as a byte.
 fn low_bytes(numbers: &[u16; 16]) -> [u8; 16] {
     let mut out = [0; 16];
     for i in 0..16 {
@@ -124,7 +125,8 @@ fn digit_values(digits: &[u8]) -> [u8; 32] {
     out
 }
 
-/// Checks that the descriptor of a line is read as the line says and written back, both with its own mask and with each other mask.
+/// Reads a line's descriptor, and checks that it has the contents that the line gives. Writes the descriptor, reads it again, and checks the contents
+/// again. Then puts each possible mask of the targets into the descriptor, and checks the contents with this mask.
 fn expect_line(rt: &impl Abort, line: &[u8]) -> Result<(), Fail> {
     let mut text = line;
     let structure = hex(&mut text);
@@ -157,7 +159,8 @@ fn expect_line(rt: &impl Abort, line: &[u8]) -> Result<(), Fail> {
     expect_real(rt, structure.bytes(), bytes.bytes(), carries, &said)
 }
 
-/// For each possible mask of the targets: rewrites the descriptor with this mask, and checks that it reads as `said` with this mask.
+/// Puts each possible mask of the targets into the descriptor in turn. Each time, checks that the new descriptor has this mask, and otherwise the contents
+/// `said`.
 fn expect_masks(
     rt: &impl Abort,
     bytes: &[u8],

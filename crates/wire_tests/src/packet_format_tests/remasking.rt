@@ -7,14 +7,15 @@ use packet_format::Remasker;
 use sfu_base::PacketBuf;
 use std::test::Fail;
 
-/// Key descriptors with frame number 1: structures of one target (A), and of two targets and two chains (C).
+/// Descriptors of key frames with frame number 1. The structure of `A` has one target. The structure of `C` has two targets and two chains.
 const A: [u8; 9] = [0xc0, 0x00, 0x01, 0x80, 0x00, 0x3a, 0x41, 0x01, 0x00];
 
 const C: [u8; 16] = [
     0xc0, 0x00, 0x01, 0x80, 0x01, 0x23, 0xee, 0x88, 0x45, 0x04, 0x22, 0xe0, 0x02, 0x11, 0x11, 0x10,
 ];
 
-/// A frame of structure C with 16 custom distances, 1 to 16, each in four bits, and the same frame with the mask of both targets.
+/// The descriptor of a frame with structure C. Its 16 custom distances are 1 to 16, each written in four bits. `DISTANCES_TELLING_BOTH` is the same
+/// descriptor with the mask of both targets.
 const DISTANCES: [u8; 16] = [
     0xc1, 0x00, 0x02, 0x12, 0x08, 0xa4, 0x9a, 0x8a, 0xac, 0xbb, 0x0c, 0xb4, 0xdb, 0x8e, 0xbc, 0xf8,
 ];
@@ -54,7 +55,8 @@ fn laid(header: &[u8], extension: &[u8], tail: &[u8]) -> PacketBuf
     packet
 }
 
-/// Returns the packet with the mask in its descriptor, the element with id 4. Returns `None` if the packet isn't remasked; the output is then unchanged.
+/// Puts the mask into the packet's descriptor, which is the header extension element with id 4. Returns the new packet, or `None` if the packet isn't
+/// remasked. In the case of `None`, the output buffer is unchanged.
 fn remasked(
     packet: &[u8],
     force: Option<&Structure>,
@@ -72,7 +74,7 @@ fn remasked(
     }
 }
 
-/// Checks that a packet of this header, extension and tail is remasked to a packet of the same header and tail with the extension `new`.
+/// Makes a packet from this header, extension and tail. Checks that remasking the packet replaces the extension with `new`, and changes nothing else.
 fn check(
     header: &[u8],
     extension: &[u8],
@@ -134,24 +136,31 @@ fn frames_of_a_structure_in_force_tell_the_new_mask(rt: HostRuntime) -> Result<(
     let force = Some(&structure);
     // The new extension is one word longer. Everything after the frame's definition is dropped, and so is the old mask.
     let short = [0xbe, 0xde, 0x00, 0x01, 0x42, 0xc1, 0x00, 0x03];
-    let told = [
+    let with_mask = [
         0xbe, 0xde, 0x00, 0x02, 0x43, 0xc1, 0x00, 0x03, 0x44, 0, 0, 0,
     ];
-    check(&HEADER, &short, &PAYLOAD, force, 2, &told)?;
+    check(&HEADER, &short, &PAYLOAD, force, 2, &with_mask)?;
     let behind = [
         0xbe, 0xde, 0x00, 0x02, 0x45, 0xc1, 0x00, 0x03, 0x47, 0xff, 0xff, 0,
     ];
-    check(&HEADER, &behind, &PAYLOAD, force, 2, &told)?;
+    check(&HEADER, &behind, &PAYLOAD, force, 2, &with_mask)?;
     // Custom distances, a padding byte, and elements before and after the descriptor's element. One of those after it has the descriptor's id too.
     let among = [
         0xbe, 0xde, 0x00, 0x04, 0x31, 0xaa, 0xbb, 0x00, 0x44, 0xc3, 0x00, 0x06, 0x12, 0x00, 0x42,
         0xc1, 0x00, 0x03, 0x50, 0xcc,
     ];
-    let told = [
+    let with_mask = [
         0xbe, 0xde, 0x00, 0x04, 0x31, 0xaa, 0xbb, 0x44, 0xc3, 0x00, 0x06, 0x56, 0x80, 0x42, 0xc1,
         0x00, 0x03, 0x50, 0xcc, 0,
     ];
-    check(&PADDED_HEADER, &among, &PADDED_PAYLOAD, force, 3, &told)
+    check(
+        &PADDED_HEADER,
+        &among,
+        &PADDED_PAYLOAD,
+        force,
+        3,
+        &with_mask,
+    )
 }
 
 #[test]
@@ -274,7 +283,7 @@ fn a_packet_without_a_descriptor_that_reads_isnt_remasked(rt: HostRuntime) -> Re
         assert!(rt; remasked(packet.bytes(), force, 1)?.is_none());
     }
     // Mask bits past the two targets are left out.
-    let told = [
+    let with_mask = [
         0xbe, 0xde, 0x00, 0x02, 0x43, 0xc2, 0x00, 0x02, 0x44, 0, 0, 0,
     ];
     check(
@@ -283,6 +292,6 @@ fn a_packet_without_a_descriptor_that_reads_isnt_remasked(rt: HostRuntime) -> Re
         &PAYLOAD,
         Some(&structure),
         0xffff_fffe,
-        &told,
+        &with_mask,
     )
 }

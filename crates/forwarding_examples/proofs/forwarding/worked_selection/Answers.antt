@@ -1,4 +1,4 @@
-use Rattle.forwarding_examples.proofs.SelectionRows.{passing_opens_nothing, new_epoch_gives_the_reason, withheld_frames_begin_epochs, temporal_wish_is_kept, discardable_frames_pass, discardable_frames_open_nothing, fourth_bit_is_target_three, absence_comes_first, no_target_comes_first, greatest_below_is_told, old_frames_keep_their_causes, key_frames_arent_forgotten, lower_markers_are_kept, first_numbers, spatial_comes_first, first_of_equals, broken_chain_path, greater_layers_first}
+use Rattle.forwarding_examples.proofs.SelectionRows.{passing_opens_nothing, new_epoch_gives_the_reason, withheld_frames_begin_epochs, temporal_wish_is_kept, discardable_frames_pass, discardable_frames_open_nothing, fourth_bit_is_target_three, absence_comes_first, no_target_comes_first, greatest_below_is_reported, old_frames_keep_their_causes, key_frames_arent_forgotten, lower_markers_are_kept, first_numbers, spatial_comes_first, first_of_equals, broken_chain_path, greater_layers_first}
 use Rattle.forwarding_examples.proofs.forwarding.worked_selection.Goals as goal
 
 pub returns-clause-passing_opens_nothing : goal.returns-clause-passing_opens_nothing
@@ -29,7 +29,7 @@ pub returns-clause-no_target_first : goal.returns-clause-no_target_first
 returns-clause-no_target_first c = no_target_comes_first
 
 pub returns-clause-greatest_below : goal.returns-clause-greatest_below
-returns-clause-greatest_below c = greatest_below_is_told
+returns-clause-greatest_below c = greatest_below_is_reported
 
 pub returns-clause-key_frame_far_back : goal.returns-clause-key_frame_far_back
 returns-clause-key_frame_far_back c = key_frames_arent_forgotten

@@ -1,5 +1,5 @@
 use Rattle.packet_format.proofs.Remasked.{carried_decides, first_shows, packets_remasked, remasked_shows}
-use Rattle.packet_format.proofs.RemaskedRests.{rests_remasked, rests_tell}
+use Rattle.packet_format.proofs.RemaskedRests.{rests_remasked, rests_carry_mask}
 use Rattle.packet_format.proofs.laws.remasked_packets_show_the_new_mask.Goals as goal
 
 pub returns-clause-packets : goal.returns-clause-packets
@@ -17,5 +17,5 @@ returns-clause-carried c = carried_decides
 pub returns-clause-rests : goal.returns-clause-rests
 returns-clause-rests c = rests_remasked
 
-pub returns-clause-tells : goal.returns-clause-tells
-returns-clause-tells c = rests_tell
+pub returns-clause-carries_mask : goal.returns-clause-carries_mask
+returns-clause-carries_mask c = rests_carry_mask

@@ -2,7 +2,7 @@ use Rattle.std.proofs.Common.{◌+◌, ℕ, Bool, ◌∙◌, refl, ◌&&◌, ◌
 use Rattle.rtp_packet.specs.Fields.{marker_of}
 use Rattle.rtp_packet.proofs.Faultless.{header_there}
 use Rattle.out_ring.specs.Ring.{pushed}
-use Rattle.room_core.proofs.Pushing.{push_begins, push_ends, push_next, push_room}
+use Rattle.room_core.proofs.Pushing.{push_begins, push_ends, push_next, push_capacity}
 use Rattle.room_core.proofs.Sharing.{frame_goes_on, is_shared, shared_grows}
 use Rattle.room_core.proofs.sending.push_from.Goals as goal
 
@@ -11,8 +11,8 @@ loop-place-init c = record { above = omega arith; so_far = push_begins c.args.fr
 
 pub queue-requires-clause-capacity : goal.queue-requires-clause-capacity
 queue-requires-clause-capacity c =
-    push_room c.args.track.now.packets c.args.is_top c.args.from c.loop-place.place c.loop-place.ring c.args.ring.now c.loop-place.invariant.above
-    (let lt = c.loop-place-test.true in omega (arith, lt, c.requires.count)) c.requires.room c.loop-place.invariant.so_far
+    push_capacity c.args.track.now.packets c.args.is_top c.args.from c.loop-place.place c.loop-place.ring c.args.ring.now c.loop-place.invariant.above
+    (let lt = c.loop-place-test.true in omega (arith, lt, c.requires.count)) c.requires.capacity c.loop-place.invariant.so_far
 
 pub queue-requires-clause-same : goal.queue-requires-clause-same
 queue-requires-clause-same c =

@@ -6,9 +6,9 @@ use Rattle.room_core.proofs.Pushing.{keeps_first, keeps_one, push_first_ends}
 use Rattle.room_core.proofs.Sharing.{is_shared, more_shared}
 use Rattle.room_core.proofs.sending.push_remasked.Goals as goal
 
-pub push_first-requires-clause-told : goal.push_first-requires-clause-told
-push_first-requires-clause-told c =
-    keeps_one c.args.track.now.layers c.args.track.now.packets c.packet-packet.result.now c.args.cache.now c.packet-packet.ensures.at c.requires.of_frame.told
+pub push_first-requires-clause-cached : goal.push_first-requires-clause-cached
+push_first-requires-clause-cached c =
+    keeps_one c.args.track.now.layers c.args.track.now.packets c.packet-packet.result.now c.args.cache.now c.packet-packet.ensures.at c.requires.of_frame.cached
 
 pub push_first-requires-clause-same : goal.push_first-requires-clause-same
 push_first-requires-clause-same c =
@@ -16,7 +16,7 @@ push_first-requires-clause-same c =
 
 pub push_from-requires-clause-of_frame : goal.push_from-requires-clause-of_frame
 push_from-requires-clause-of_frame c = record {
-  told = keeps_first c.args.track.now.layers c.args.track.now.packets c.packet-packet.result.now c.push_first.new.cache c.packet-packet.ensures.at c.push_first.ensures.told;
+  cached = keeps_first c.args.track.now.layers c.args.track.now.packets c.packet-packet.result.now c.push_first.new.cache c.packet-packet.ensures.at c.push_first.ensures.cached;
   shared = more_shared c.args.cache.now.shared.items c.push_first.new.cache.shared.items c.args.track.now.packets 0 c.packet-packet.result.now c.requires.of_frame.shared
       c.packet-packet.ensures.at c.push_first.ensures.shared;
 }

@@ -10,19 +10,19 @@ append_elements-requires-clause-fit c =
     (sym (ap form_of c.wide_enough-profile.ensures.profile) ∙ c.wide_enough-profile.ensures.form) c.requires.value
     (elements_fit c.in-Some.old_form c.args.block.now (λ i. omega (arith, c.type_inv.block i)))
 
-pub returns-then-bytes-words-gt-ROOM-clause-fits : goal.returns-then-bytes-words-gt-ROOM-clause-fits
-returns-then-bytes-words-gt-ROOM-clause-fits c =
+pub returns-then-bytes-words-gt-CAPACITY-clause-fits : goal.returns-then-bytes-words-gt-CAPACITY-clause-fits
+returns-then-bytes-words-gt-CAPACITY-clause-fits c =
     let whole = length-extension_with c.args.profile c.args.id c.args.block.now c.args.value.now c.in-Some.old_form c.wide_enough-profile.result.1
     c.in-Some-written_len.len c.div_ceil-words.result (sym c.in-Some.ensures)
     (sym (ap form_of c.wide_enough-profile.ensures.profile) ∙ c.wide_enough-profile.ensures.form) c.in-Some-written_len.ensures.0 c.div_ceil-words.ensures in
-    ((λ no. cc), (λ room. absurd (omega (arith, whole, ap length c.bytes.ensures.bytes))))
+    ((λ no. cc), (λ capacity. absurd (omega (arith, whole, ap length c.bytes.ensures.bytes))))
 
 pub returns-clause-fits : goal.returns-clause-fits
 returns-clause-fits c =
     let whole = length-extension_with c.args.profile c.args.id c.args.block.now c.args.value.now c.in-Some.old_form c.wide_enough-profile.result.1
     c.in-Some-written_len.len c.div_ceil-words.result (sym c.in-Some.ensures)
     (sym (ap form_of c.wide_enough-profile.ensures.profile) ∙ c.wide_enough-profile.ensures.form) c.in-Some-written_len.ensures.0 c.div_ceil-words.ensures in
-    ((λ yes. omega (arith, whole, ap length c.bytes.ensures.bytes)), (λ room. refl))
+    ((λ yes. omega (arith, whole, ap length c.bytes.ensures.bytes)), (λ capacity. refl))
 
 pub returns-clause-ok : goal.returns-clause-ok
 returns-clause-ok c =

@@ -91,7 +91,7 @@ returns-in-Some-clause-other g c = λ none. absurd (none (inr (inr (_, c.in-Some
 
 pub returns-in-Some-clause-serve : goal.returns-in-Some-clause-serve
 returns-in-Some-clause-serve g c = λ turns is.
-    rw c.number-in-Some.ensures (subst (λ (n : ℕ). Serves g.P.Port.Link.told g.P.Port.Link.faults g.P.Port.Link.name n (exchange_by (g.S.Source.left c.args.source.now) (g.S.Source.left c.serve.new.source)
+    rw c.number-in-Some.ensures (subst (λ (n : ℕ). Serves g.P.Port.Link.traffic g.P.Port.Link.faults g.P.Port.Link.name n (exchange_by (g.S.Source.left c.args.source.now) (g.S.Source.left c.serve.new.source)
     (g.K.Sink.written c.args.sink.now) (g.K.Sink.written c.serve.new.sink) (g.S.Source.faults c.args.source.now) (g.S.Source.faults c.serve.new.source)
     (g.K.Sink.faults c.args.sink.now) (g.K.Sink.faults c.serve.new.sink))
     (seen_ports (g.P.Ports.bound c.args.ports.now) (g.P.Ports.back_count c.args.ports.now) (g.P.Ports.returned c.args.ports.now) (g.P.Ports.faults c.args.ports.now))

@@ -10,7 +10,7 @@ invariant-loop-turn g l = record {
   turns : l.turn ≤ l.stage.limit;
   waits : (turns : ℕ) → Waits (g.S.Session.left l.session turns) turns;
   done : Done (MayStarve g.R.Recorder.may_refuse) (g.S.Session.left l.fn.session l.stage.limit) (g.S.Session.left l.session (l.stage.limit - l.turn)) l.fn.seat l.seat
-      (g.L.Link.told l.fn.link) (g.L.Link.told l.link) (g.L.Link.faults l.fn.link) (g.L.Link.faults l.link) l.turn;
+      (g.L.Link.traffic l.fn.link) (g.L.Link.traffic l.link) (g.L.Link.faults l.fn.link) (g.L.Link.faults l.link) l.turn;
   name : g.L.Link.name l.link ≡ g.L.Link.name l.fn.link;
 }
 
@@ -18,7 +18,7 @@ invariant-loop-turn g l = record {
 abbrev pub invariant-loop-call : goal.invariant-loop-call
 invariant-loop-call g l = record {
   done : Done (MayStarve g.R.Recorder.may_refuse) (g.S.Session.left l.fn.session l.stage.limit) (g.S.Session.left l.session (l.stage.limit - (l.turn + 1))) l.fn.seat l.seat
-      (g.L.Link.told l.fn.link) (g.L.Link.told l.link) (g.L.Link.faults l.fn.link) (g.L.Link.faults l.link) (l.turn + 1);
+      (g.L.Link.traffic l.fn.link) (g.L.Link.traffic l.link) (g.L.Link.faults l.fn.link) (g.L.Link.faults l.link) (l.turn + 1);
   name : g.L.Link.name l.link ≡ g.L.Link.name l.fn.link;
 }
 

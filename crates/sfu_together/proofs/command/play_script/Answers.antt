@@ -23,7 +23,7 @@ returns-in_default-text_of g c = plays_starved _ _ _ _ _ _ _ _ c.in-Ok.script c.
 pub returns-in-Ok-write_all : goal.returns-in-Ok-write_all
 returns-in-Ok-write_all g c =
     let is = c.in-Ok-run_together.ensures in
-    let text : c.bytes.result.now ≡ journal_text is.history = c.bytes.ensures ∙ (c.in-Ok-text_of.ensures ∙ ap (flat_map entry_text) is.told) in
+    let text : c.bytes.result.now ≡ journal_text is.history = c.bytes.ensures ∙ (c.in-Ok-text_of.ensures ∙ ap (flat_map entry_text) is.reported) in
     plays_whole _ _ _ _ _ _ _ _ c.in-Ok.script c.in-Ok.ensures.ok _ _ is.history is.made is.headline
     (subst (λ (t : List ℕ). Appends (g.K.Sink.written c.read_actors.new.sink) (g.K.Sink.written c.write_all.new.sink) t) text c.in-Ok-write_all.ensures.ok)
     c.in-Ok-write_all.ensures.counts
@@ -31,7 +31,7 @@ returns-in-Ok-write_all g c =
 pub returns : goal.returns
 returns g c =
     let is = c.in-Ok-run_together.ensures in
-    let text : c.bytes.result.now ≡ journal_text is.history = c.bytes.ensures ∙ (c.in-Ok-text_of.ensures ∙ ap (flat_map entry_text) is.told) in
+    let text : c.bytes.result.now ≡ journal_text is.history = c.bytes.ensures ∙ (c.in-Ok-text_of.ensures ∙ ap (flat_map entry_text) is.reported) in
     plays_part _ _ _ _ _ _ _ _ c.in-Ok.script c.in-Ok.ensures.ok _ _ is.history is.made is.headline
     (subst (λ (t : List ℕ). WritesPart (g.K.Sink.written c.read_actors.new.sink) (g.K.Sink.written c.write_all.new.sink) t) text c.in-Err-write_all.ensures.part)
     c.in-Err-write_all.ensures.counts

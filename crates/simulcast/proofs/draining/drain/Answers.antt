@@ -56,4 +56,4 @@ returns-clause-recorder g c = c.loop-count.invariant.recorder
 pub take_in-requires : goal.take_in-requires
 take_in-requires g c =
     let sendable = c.take-reply.ensures.sendable (c.if-not-is_packet.ensures.packet refl) in
-    record { room = leb-false 512 _ (sym c.if-is_full.ensures); reads = sendable.reads; fits = sendable.fits }
+    record { capacity = leb-false 512 _ (sym c.if-is_full.ensures); reads = sendable.reads; fits = sendable.fits }

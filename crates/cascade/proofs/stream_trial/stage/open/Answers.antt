@@ -9,13 +9,13 @@ use Rattle.std.proofs.Common.{◌≡◌, false}
 use Rattle.room_core.specs.declared.recorder.KeepNone.{KeepNone}
 use Rattle.room_core.specs.declared.room.Room.{Room}
 use Rattle.room_core.specs.Serves.{Serves}
-use Rattle.cascade.specs.Standing.{StandsAfter, untold}
+use Rattle.cascade.specs.Standing.{StandsAfter, unrecorded}
 use Rattle.cascade.specs.Calls.{and_call, wish_for}
 use Rattle.cascade.proofs.Staging.{stands_after}
 use Rattle.cascade.proofs.stream_trial.stage.open.Goals as goal
 
 joins : (old new : Room KeepNone) (n ssrc spatial temporal : ℕ) (wish : Wish) (r : Reply) (past : List Call) → wish ≡ wish_for spatial temporal
-    → Serves untold old new 0 (call.Join n 1 ssrc 0 wish) r [] [] → is_starved r ≡ false → StandsAfter old past
+    → Serves unrecorded old new 0 (call.Join n 1 ssrc 0 wish) r [] [] → is_starved r ≡ false → StandsAfter old past
     → StandsAfter new (and_call past (call.Join n 1 ssrc 0 (wish_for spatial temporal)))
 joins old new n ssrc spatial temporal wish r past is serves fed s =
     subst (λ (w : Wish). StandsAfter new (and_call past (call.Join n 1 ssrc 0 w))) is (stands_after old new (call.Join n 1 ssrc 0 wish) r [] [] past serves fed s)

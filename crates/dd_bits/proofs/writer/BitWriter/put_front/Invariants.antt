@@ -1,12 +1,12 @@
 use Rattle.std.proofs.Common.{◌≡◌, ◌≤◌, ◌+◌, ◌++◌, length, take}
 use Rattle.dd_bits.specs.Reader.{bits_left}
-use Rattle.dd_bits.specs.Writer.{room, written}
+use Rattle.dd_bits.specs.Writer.{capacity, written}
 use Rattle.dd_bits.proofs.writer.BitWriter.put_front.Given as goal
 
 abbrev pub invariant-loop-missing : goal.invariant-loop-missing
 invariant-loop-missing l = record {
   enough : l.missing ≤ length (bits_left l.bits);
-  fit : length (written l.self) + l.missing ≤ room;
+  fit : length (written l.self) + l.missing ≤ capacity;
   put : written l.self ++ take l.missing (bits_left l.bits) ≡ written l.fn.self ++ take l.count (bits_left l.from);
 }
 

@@ -1,11 +1,11 @@
 use Rattle.std.proofs.Common.{take}
 use Rattle.std.specs.List.{flat_map}
 use Rattle.std.proofs.lemmas.Result.{err_from_is_err_and}
-use Rattle.dd_bits.proofs.WritingLoops.{no_room_at}
+use Rattle.dd_bits.proofs.WritingLoops.{past_capacity_at}
 use Rattle.dd_structure.specs.Spelling.{indication_bits}
 use Rattle.dd_structure.proofs.writing.indications.put_indication_table.Goals as goal
 
 pub returns-in_err-put_indications : goal.returns-in_err-put_indications
 returns-in_err-put_indications c =
     let p = err_from_is_err_and c.from_residual.result c.from_residual.ensures.1 in
-    rw p.1 (no_room_at (λ row. flat_map indication_bits (take c.args.targets row)) _ c.loop-row.row-index _ _ _ _ c.loop-row-test.true c.loop-row.invariant (c.in_err-put_indications.ensures))
+    rw p.1 (past_capacity_at (λ row. flat_map indication_bits (take c.args.targets row)) _ c.loop-row.row-index _ _ _ _ c.loop-row-test.true c.loop-row.invariant (c.in_err-put_indications.ensures))

@@ -10,4 +10,4 @@ returns c = λ size contents is apart.
     file_apart c.args.self.now c.begin.new.self c.args.frame.now.timestamp c.len-start.result c.next_time-time.result (obus_in (segments_in c.args.frame.now)) c.unit_front.result c.lay.new.out.items
     size contents c.if-not-lay.ensures.lays c.unit_front.ensures is apart
     (subst (λ (t : ℕ). IsNextTime contents t c.next_time-time.result) (sym c.requires.timestamp) (c.next_time-time.ensures size contents is))
-    (omega arith) c.begin.ensures.told c.begin.ensures.begun c.begin.ensures.at (c.begin.ensures.timestamp ∙ sym c.requires.timestamp) c.begin.ensures.time c.begin.ensures.count
+    (omega arith) c.begin.ensures.updated c.begin.ensures.begun c.begin.ensures.at (c.begin.ensures.timestamp ∙ sym c.requires.timestamp) c.begin.ensures.time c.begin.ensures.count

@@ -50,8 +50,8 @@ returns-clause-heads c =
     let i = c.self.invariant in
     let index : ℕ = c.place_from-index.result in
     let head : Head = c.index_mut.result.now in
-    let left : Head = record { shared = None; marker = head.marker } in
-    ap (λ (shared : Option (List ℕ)). turned a.oldest (padded (set a.ring.items index (record { shared = shared; marker = head.marker })))) c.take.ensures.after
+    let left : Head = record { shared = None; location = head.location; marker = head.marker } in
+    ap (λ (shared : Option (List ℕ)). turned a.oldest (padded (set a.ring.items index (record { shared = shared; location = head.location; marker = head.marker })))) c.take.ensures.after
     ∙ ap (turned a.oldest) (set-padded a.ring.items index left (within c) ∙ ap (λ (k : ℕ). set (padded a.ring.items) k left) c.place_from-index.ensures.place)
     ∙ put_in_there a.oldest c.args.place (padded a.ring.items) left (size_padded a.ring.items i.few) i.oldest c.requires
     ∙ sym (evict_there (turned a.oldest (padded a.ring.items)) c.args.place head (found c))

@@ -14,7 +14,7 @@ returns-in-Some c =
     ∙ head_there a.oldest c.args.place index a.ring.items i.few i.oldest c.requires c.place_from.ensures.place head
     (omega (arith, found.3.0, ap length c.deref.ensures.value))
     (found.1 ∙ ap (λ (heads : List Head). get_or heads index head) c.deref.ensures.value)
-    ∙ ap (λ (shared : Option (List ℕ)). Some (record { shared = shared; marker = head.marker })) (sym c.as_ref.ensures.value)
+    ∙ ap (λ (shared : Option (List ℕ)). Some (record { shared = shared; location = head.location; marker = head.marker })) (sym c.as_ref.ensures.value)
 
 pub returns-in-None : goal.returns-in-None
 returns-in-None c =

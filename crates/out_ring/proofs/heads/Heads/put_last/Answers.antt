@@ -21,7 +21,7 @@ pub returns-then-index-len-clause-heads : goal.returns-then-index-len-clause-hea
 returns-then-index-len-clause-heads c =
     let a = c.self.inside in
     let i = c.self.invariant in
-    let head : Head = record { shared = c.args.shared; marker = c.args.marker } in
+    let head : Head = record { shared = c.args.shared; location = c.args.location; marker = c.args.marker } in
     let below = i.oldest in
     let behind : length a.ring.items ≤ a.oldest = omega (arith, c.if-index-len.true, c.len.ensures) in
     let last : a.oldest ≡ length a.ring.items = i.put (omega (arith, behind, below)) in
@@ -47,7 +47,7 @@ pub returns-clause-heads : goal.returns-clause-heads
 returns-clause-heads c =
     let a = c.self.inside in
     let i = c.self.invariant in
-    let head : Head = record { shared = c.args.shared; marker = c.args.marker } in
+    let head : Head = record { shared = c.args.shared; location = c.args.location; marker = c.args.marker } in
     put_newest a.oldest c.next_place-self-inside.result a.ring.items (set a.ring.items a.oldest c.replace-before.new.dest) head i.few i.oldest
     c.next_place-self-inside.ensures.place
     (ap (λ (h : Head). padded (set a.ring.items a.oldest h)) c.replace-before.ensures.after

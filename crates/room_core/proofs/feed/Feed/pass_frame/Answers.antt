@@ -9,8 +9,8 @@ use Rattle.room_core.specs.declared.counts.FrameCounts.{FrameCounts}
 use Rattle.room_core.proofs.Feeding.{frame_is_withheld, frame_passes}
 use Rattle.room_core.proofs.feed.Feed.pass_frame.Goals as goal
 
-pub returns-then-is_told-clause-follows : goal.returns-then-is_told-clause-follows
-returns-then-is_told-clause-follows c = frame_passes c.args.self.now _ c.args.offer.now.frame c.args.track.now c.args.offer.now.packets c.queued.result c.admit_offered-verdict.result c.marks_last-is_top.result true c.mask_for-mask.result
+pub returns-then-is_remasked-clause-follows : goal.returns-then-is_remasked-clause-follows
+returns-then-is_remasked-clause-follows c = frame_passes c.args.self.now _ c.args.offer.now.frame c.args.track.now c.args.offer.now.packets c.queued.result c.admit_offered-verdict.result c.marks_last-is_top.result true c.mask_for-mask.result
     (record {
       kind_is = refl;
       newest_is = c.admit_offered-verdict.ensures.newest;
@@ -29,14 +29,14 @@ returns-then-is_told-clause-follows c = frame_passes c.args.self.now _ c.args.of
     (record {
       pushes = c.push_remasked.ensures.pushed;
       top = λ s h above q. c.marks_last-is_top.ensures ∙ c.admit_offered-verdict.ensures.top s h above q c.in-Passed.is;
-      tells = λ s h above q.
-          sym c.if-is_told.true ∙ c.is_told.ensures
-          ∙ ap₂ ◌||◌ (c.opened.ensures ∙ c.admit_offered-verdict.ensures.opened s h above q c.in-Passed.is) c.requires.tells;
+      carries_mask = λ s h above q.
+          sym c.if-is_remasked.true ∙ c.is_remasked.ensures
+          ∙ ap₂ ◌||◌ (c.opened.ensures ∙ c.admit_offered-verdict.ensures.opened s h above q c.in-Passed.is) c.requires.carries_mask;
       mask_is = λ so s h. c.mask_for-mask.ensures ∙ ap (mask_for c.args.offer.now.frame) (c.target.ensures.stands s h);
     })
 
-pub returns-else-is_told-clause-follows : goal.returns-else-is_told-clause-follows
-returns-else-is_told-clause-follows c = frame_passes c.args.self.now _ c.args.offer.now.frame c.args.track.now c.args.offer.now.packets c.queued.result c.admit_offered-verdict.result c.marks_last-is_top.result false 0
+pub returns-else-is_remasked-clause-follows : goal.returns-else-is_remasked-clause-follows
+returns-else-is_remasked-clause-follows c = frame_passes c.args.self.now _ c.args.offer.now.frame c.args.track.now c.args.offer.now.packets c.queued.result c.admit_offered-verdict.result c.marks_last-is_top.result false 0
     (record {
       kind_is = refl;
       newest_is = c.admit_offered-verdict.ensures.newest;
@@ -55,9 +55,9 @@ returns-else-is_told-clause-follows c = frame_passes c.args.self.now _ c.args.of
     (record {
       pushes = c.push_from.ensures.pushed;
       top = λ s h above q. c.marks_last-is_top.ensures ∙ c.admit_offered-verdict.ensures.top s h above q c.in-Passed.is;
-      tells = λ s h above q.
-          sym c.if-is_told.false ∙ c.is_told.ensures
-          ∙ ap₂ ◌||◌ (c.opened.ensures ∙ c.admit_offered-verdict.ensures.opened s h above q c.in-Passed.is) c.requires.tells;
+      carries_mask = λ s h above q.
+          sym c.if-is_remasked.false ∙ c.is_remasked.ensures
+          ∙ ap₂ ◌||◌ (c.opened.ensures ∙ c.admit_offered-verdict.ensures.opened s h above q c.in-Passed.is) c.requires.carries_mask;
       mask_is = λ so. absurd (true≢false (sym so));
     })
 

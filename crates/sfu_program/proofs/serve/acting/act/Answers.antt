@@ -10,7 +10,7 @@ use Rattle.sfu_driver.specs.Statuses.{number_of}
 pub returns-clause-acts : goal.returns-clause-acts
 returns-clause-acts g c =
     let text : c.bytes.result.now ≡ first_text c.args.served.now.calls = c.bytes.ensures ∙ (c.in-Ok.ensures.text ∙ ap first_text c.calls.ensures) in
-    acts_behind g.P.Port.Link.told g.P.Port.Link.faults g.P.Port.Link.name c.args.limit c.args.served.now.calls c.args.served.now.ports.items
+    acts_behind g.P.Port.Link.traffic g.P.Port.Link.faults g.P.Port.Link.name c.args.limit c.args.served.now.calls c.args.served.now.ports.items
     (g.K.Sink.written c.args.sink.now) (g.K.Sink.written c.write_all.new.sink) (g.K.Sink.written c.serve_ports.new.sink)
     (g.K.Sink.faults c.args.sink.now) (g.K.Sink.faults c.write_all.new.sink) (g.K.Sink.faults c.serve_ports.new.sink)
     (seen_ports (g.P.Ports.bound c.args.ports.now) (g.P.Ports.back_count c.args.ports.now) (g.P.Ports.returned c.args.ports.now) (g.P.Ports.faults c.args.ports.now))

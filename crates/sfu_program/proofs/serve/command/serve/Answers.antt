@@ -36,7 +36,7 @@ pub returns-in-Ok : goal.returns-in-Ok
 returns-in-Ok g c =
     let read = c.in-Ok.ensures.ok in
     let acts = c.act.ensures.acts in
-    let told = g.P.Port.Link.told in
+    let traffic = g.P.Port.Link.traffic in
     let faults = g.P.Port.Link.faults in
     let name = g.P.Port.Link.name in
     let setup = (configuration_of read.bytes).setup in
@@ -49,10 +49,10 @@ returns-in-Ok g c =
     let f1 = g.K.Sink.faults c.read_served.new.sink in
     let f' = g.K.Sink.faults c.act.new.sink in
     let status = (number_of c.act.result) in
-    let said : Acts told faults name c.args.limit setup.calls setup.ports w1 w' f1 f' old new status =
-    subst (λ (calls : List Call). Acts told faults name c.args.limit calls setup.ports w1 w' f1 f' old new status) read.setup.calls
-    (subst (λ (lines : List PortLine). Acts told faults name c.args.limit c.in-Ok.served.calls lines w1 w' f1 f' old new status) read.setup.ports acts) in
-    let all = acts_before told faults name c.args.limit setup.calls setup.ports w w1 w' f f1 f' old new status c.in-Ok.ensures.kept.1 read.unwritten said in
+    let said : Acts traffic faults name c.args.limit setup.calls setup.ports w1 w' f1 f' old new status =
+    subst (λ (calls : List Call). Acts traffic faults name c.args.limit calls setup.ports w1 w' f1 f' old new status) read.setup.calls
+    (subst (λ (lines : List PortLine). Acts traffic faults name c.args.limit c.in-Ok.served.calls lines w1 w' f1 f' old new status) read.setup.ports acts) in
+    let all = acts_before traffic faults name c.args.limit setup.calls setup.ports w w1 w' f f1 f' old new status c.in-Ok.ensures.kept.1 read.unwritten said in
     record {
       came = inr (record { bytes = read.bytes; consumed = read.consumed; at_end = read.at_end; whole = read.whole; acts = all });
       first_fault = with_reads (g.S.Source.faults c.args.source.now) (g.S.Source.faults c.read_served.new.source) f f' status c.in-Ok.ensures.kept.0 all.first_fault;

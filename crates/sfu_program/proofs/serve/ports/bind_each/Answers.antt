@@ -12,17 +12,17 @@ loop-line-preserved g c =
     let all = c.args.lines.now in
     let job = c.in_ok-job.job in
     let inv = c.loop-line.invariant in
-    let told = g.P.Port.Link.told in
+    let traffic = g.P.Port.Link.traffic in
     let faults = g.P.Port.Link.faults in
-    let one = fresh_more (take i all) (befores told faults c.loop-line.jobs.items) _ _ inv.fresh c.in_ok-job.ensures.fresh in
+    let one = fresh_more (take i all) (befores traffic faults c.loop-line.jobs.items) _ _ inv.fresh c.in_ok-job.ensures.fresh in
     let named : g.P.Port.Link.name job.link ≡ 0 + length (map (λ j. j.link) c.loop-line.jobs.items) =
     (let is = c.in_ok-job.ensures.name in let count = inv.bound in let many = inv.count in let here = c.loop-line.jobs.ok.0 in let long = length-map c.loop-line.jobs.items (λ j. j.link) in omega arith) in
-    let more = subst (λ (lines : List PortLine). AreFresh lines (befores told faults c.loop-line.jobs.items ++ job_before job.role (told job.link) (faults job.link) ∷ [])) (sym (take_more all i _ (omega arith))) one in
-    let jobs : befores told faults c.push_reserved.new.self.items ≡ befores told faults c.loop-line.jobs.items ++ job_before job.role (told job.link) (faults job.link) ∷ [] =
-    ap (befores told faults) c.push_reserved.ensures.items ∙ map-append (λ j. job_before j.role (told j.link) (faults j.link)) c.loop-line.jobs.items (job ∷ []) in
+    let more = subst (λ (lines : List PortLine). AreFresh lines (befores traffic faults c.loop-line.jobs.items ++ job_before job.role (traffic job.link) (faults job.link) ∷ [])) (sym (take_more all i _ (omega arith))) one in
+    let jobs : befores traffic faults c.push_reserved.new.self.items ≡ befores traffic faults c.loop-line.jobs.items ++ job_before job.role (traffic job.link) (faults job.link) ∷ [] =
+    ap (befores traffic faults) c.push_reserved.ensures.items ∙ map-append (λ j. job_before j.role (traffic j.link) (faults j.link)) c.loop-line.jobs.items (job ∷ []) in
     record {
       count = omega arith;
-      room = omega arith;
+      capacity = omega arith;
       fresh = subst (λ (js : List Before). AreFresh (take (i + 1) all) js) (sym jobs) more;
       names = subst (AreNamedFrom g.P.Port.Link.name 0) (sym (ap (map (λ j. j.link)) c.push_reserved.ensures.items ∙ map-append (λ j. j.link) c.loop-line.jobs.items (job ∷ [])))
           (named_more g.P.Port.Link.name 0 (map (λ j. j.link) c.loop-line.jobs.items) job.link inv.names named);

@@ -9,8 +9,8 @@ use Rattle.turn_lock.proofs.lock.Turns.serve.Goals as goal
 pub exchange-requires : goal.exchange-requires
 exchange-requires g c = let has = c.requires.has in (search rules, (Some has.0, has.2 ∙ ap (λ l. (0, Some has.0) ∷ l) (sym (ap rest has.2))))
 
-pub give_back-place-requires-clause-ready : goal.give_back-place-requires-clause-ready
-give_back-place-requires-clause-ready g c =
+pub release-place-requires-clause-ready : goal.release-place-requires-clause-ready
+release-place-requires-clause-ready g c =
     let has = c.requires.has in
     let v = c.args.inner.now.me.0 in
     let m = moved v c.args.inner.now.me.1 has.0 c.in-Some.value c.serve-reply.new.self c.exchange.result c.exchange.new.seat.me c.exchange-none.new.seat.me has.2 c.exchange.ensures.2 c.in-Some.is c.exchange.ensures.3 c.exchange-none.ensures.3 in

@@ -1,5 +1,0 @@
-use Rattle.cause_book.proofs.Modelled.{keeps_causes}
-use Rattle.cause_book.proofs.laws.a_book_tells_causes.Goals as goal
-
-pub returns : goal.returns
-returns g c = keeps_causes

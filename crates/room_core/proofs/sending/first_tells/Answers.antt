@@ -1,9 +1,0 @@
-use Rattle.std.proofs.Common.{◌∙◌}
-use Rattle.rtp_packet.proofs.Faultless.{header_there}
-use Rattle.room_core.proofs.Pushing.{tells_said}
-use Rattle.room_core.proofs.sending.first_tells.Goals as goal
-
-pub returns : goal.returns
-returns c =
-    c.tells.ensures
-    ∙ tells_said c.args.track.now.layers c.in-Some.id c.args.track.now.packets c.packet.result.now c.in-Some.ensures c.packet.ensures.at (header_there c.packet.result.now c.packet.ensures.reads)
